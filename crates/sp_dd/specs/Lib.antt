@@ -1,0 +1,15 @@
+pub mod Floors
+pub mod Points
+pub mod Func
+pub mod Operations
+pub mod Packed
+pub mod Unpacked
+pub mod NodeLists
+pub mod Ordered
+pub mod Walks
+pub mod Chained
+pub mod Flat
+pub mod Hashes
+pub mod Kept
+pub mod Sources
+pub mod Diagrams

@@ -1,0 +1,11 @@
+pub mod CofactorLemmas
+pub mod PairLemmas
+pub mod FixedLemmas
+pub mod SumLemmas
+pub mod SelectLemmas
+pub mod BranchLemmas
+pub mod RenamedLemmas
+pub mod ZeroLemmas
+pub mod SearchLemmas
+pub mod BestLemmas
+pub mod DotLemmas

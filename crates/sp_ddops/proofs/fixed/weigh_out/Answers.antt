@@ -1,0 +1,26 @@
+use Rattle.std.proofs.Common.{◌≡◌, ◌∙◌, ◌≤◌, arith}
+use Rattle.sp_dd.specs.Func.{size_of}
+use Rattle.sp_dd.proofs.ScopeLemmas.{AllSizes-get_or}
+use Rattle.sp_ddops.proofs.SumLemmas.{products, front_first, sum_step_fits, sum_step, products_small, size_some, floored}
+use Rattle.sp_ddops.proofs.fixed.weigh_out.Goals as goal
+
+pub product_at-requires-clause-value : goal.product_at-requires-clause-value
+product_at-requires-clause-value c = size_some _ _ c.scope.ensures.known c.requires.slot
+
+pub loop-value-init : goal.loop-value-init
+loop-value-init c = c.in_ok-total.ensures ∙ front_first _ (products c.args.f.now c.args.slot c.args.p.now) c.scope.ensures.known
+
+pub combined-requires-clause-fits : goal.combined-requires-clause-fits
+combined-requires-clause-fits c =
+    let most : size_of c.args.f.now.shape c.args.slot ≤ 64 = AllSizes-get_or c.args.f.now.shape.sizes c.args.slot c.scope.ensures.known.each in
+    sum_step_fits c.args.f.now.shape (products c.args.f.now c.args.slot c.args.p.now) c.loop-value.value (size_of c.args.f.now.shape c.args.slot) _ _ c.loop-value.invariant c.in_ok-part.ensures c.scope.ensures.known (grind arith) most (products_small c.args.f.now c.args.slot c.args.p.now c.requires.scopes c.requires.small c.requires.weights)
+
+pub loop-value-preserved : goal.loop-value-preserved
+loop-value-preserved c =
+    sum_step c.args.f.now.shape (products c.args.f.now c.args.slot c.args.p.now) c.loop-value.value _ _ _ c.loop-value.invariant c.in_ok-part.ensures c.scope.ensures.known c.in_ok-total-2.ensures
+
+pub returns : goal.returns
+returns c =
+    let some = size_some _ _ c.scope.ensures.known c.requires.slot in
+    let e : c.loop-value.value ≡ size_of c.args.f.now.shape c.args.slot = grind (arith, some) in
+    floored c.args.f.now c.args.slot c.args.p.now c.loop-value.value _ _ c.scope.ensures.known e c.loop-value.invariant c.in_ok-made.ensures

@@ -1,0 +1,9 @@
+pub mod Cofactors
+pub mod Pairs
+pub mod Fixed
+pub mod Rows
+pub mod Selected
+pub mod Renamed
+pub mod Zero
+pub mod Best
+pub mod Totals

@@ -1,0 +1,15 @@
+pub mod ClassSteps
+pub mod Steps
+pub mod Machine
+pub mod Good
+pub mod Tokens
+pub mod TreesRead
+pub mod TextRead
+pub mod Language
+pub mod Forward
+pub mod Prefix
+pub mod Squares
+pub mod Faults
+pub mod Answer
+pub mod Unique
+pub mod Exclusive

@@ -1,0 +1,10 @@
+-- What is left to read gives what all of it gives.
+use Rattle.std.proofs.Common.{◌≡◌, ◌-◌}
+use Rattle.sp_syntax.specs.Reading as spec
+use Rattle.sp_syntax.specs.Reading.{many, is_end_action}
+use Rattle.sp_syntax.proofs.reader.items.Given as goal
+
+abbrev pub invariant-loop-turn : goal.invariant-loop-turn
+invariant-loop-turn l =
+    (many is_end_action (spec.item_at l.end l.left) l.end (l.turns - l.turn) l.items l.cursor.rest.now
+    ≡ many is_end_action (spec.item_at l.end l.left) l.end l.turns l.initial.items l.initial.cursor.rest.now)

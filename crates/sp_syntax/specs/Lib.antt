@@ -1,0 +1,6 @@
+pub mod formers
+pub mod Classes
+pub mod Fault
+pub mod Grammar
+pub mod Reading
+pub mod Refusal

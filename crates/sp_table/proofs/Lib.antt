@@ -1,0 +1,9 @@
+pub mod PlaceLemmas
+pub mod FrameLemmas
+pub mod ExchangeLemmas
+pub mod OrderLemmas
+pub mod TotalLemmas
+pub mod BranchLemmas
+pub mod CompareLemmas
+pub mod WholeLemmas
+pub mod DiagonalLemmas

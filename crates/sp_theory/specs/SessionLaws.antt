@@ -1,0 +1,76 @@
+-- The laws of sessions' logs, as the functions of this crate state them, and sessions that agree at all states.
+use Rattle.std.proofs.Common.{◌≡◌, ℕ, ◌≤◌, List, [], ◌∷◌, Option, Some, None}
+use Rattle.std.specs.Prelude.{Contains, slice_get}
+use Rattle.sp_theory.specs.Model.{Model}
+use Rattle.sp_theory.specs.Values.{Weights, Edition}
+use Rattle.sp_theory.specs.Agreement.{WeightsAgree, EditionsAgree}
+use Rattle.sp_theory.specs.Logs.{Entry, told, act, observe, unseen, closing, Session, Published, all_of, seen_by, IsLog, IsLegalLog}
+
+-- ---- agreement
+-- no weights, or weights that agree
+abbrev pub NextAgree : Model → Option Weights → Option Weights → Type 0
+NextAgree m None None = Unit {0}
+NextAgree m (Some w) (Some x) = WeightsAgree m w x
+NextAgree m None (Some x) = ⊥
+NextAgree m (Some w) None = ⊥
+
+-- sessions that differ at most in the weights of what is no state
+pub record SessionsAgree (m : Model) (s t : Session) : Type 0 where
+  pub weights : WeightsAgree m s.weights t.weights
+  pub newest : s.newest ≡ t.newest
+  pub acted : s.acted ≡ t.acted
+  pub closed : s.closed ≡ t.closed
+
+-- whatever may be named of the first may be named of the second, with an edition that agrees
+pub record ServesFor (m : Model) (first second : Published) : Type 0 where
+  pub has : (e : ℕ) (edition : Edition) → first.has e edition → (other : Edition) × second.has e other × EditionsAgree m edition other
+  pub may_tell : (e : ℕ) → first.may_tell e → second.may_tell e
+  pub is_last : (e : ℕ) → first.is_last e → second.is_last e
+
+-- each number that an entry tells may be told
+abbrev pub AllTold : Published → List Entry → Type 0
+AllTold published [] = Unit {0}
+AllTold published (told e ∷ xs) = published.may_tell e × AllTold published xs
+AllTold published (act e id action ∷ xs) = AllTold published xs
+AllTold published (observe o ∷ xs) = AllTold published xs
+AllTold published (unseen o ∷ xs) = AllTold published xs
+AllTold published (closing e id action ∷ xs) = AllTold published xs
+
+-- each edition that was seen agrees with the run's of its number
+abbrev pub AreOf : Model → List Edition → List (ℕ × Edition) → Type 0
+AreOf m editions shelf = (e : ℕ) (edition : Edition) → Contains shelf (e, edition) → (other : Edition) × (slice_get editions e ≡ Some other) × EditionsAgree m edition other
+
+-- editions that agree, one after another
+abbrev pub AllAgree : Model → List Edition → List Edition → Type 0
+AllAgree m [] [] = Unit {0}
+AllAgree m (x ∷ xs) (y ∷ ys) = EditionsAgree m x y × AllAgree m xs ys
+AllAgree m [] (y ∷ ys) = ⊥
+AllAgree m (x ∷ xs) [] = ⊥
+
+-- ---- laws
+-- a log is legal for a run's editions where it is legal for editions that agree with them
+abbrev pub LegalLogsAgree : Type 0
+LegalLogsAgree = (m : Model) (editions others : List Edition) → AllAgree m editions others → (xs : List Entry) → IsLegalLog m editions xs → IsLegalLog m others xs
+
+-- a log over the editions that a session saw is a log over the run's, if these are the run's and each told number is of an edition of the run
+abbrev pub SeenLogsAreOfRuns : Type 0
+SeenLogsAreOfRuns = (m : Model) (editions : List Edition) (shelf : List (ℕ × Edition)) → AreOf m editions shelf → (s : Session) (xs : List Entry)
+    → AllTold (all_of editions) xs → IsLog m (seen_by shelf) s xs → IsLog m (all_of editions) s xs
+
+-- the editions that entries name, in order
+abbrev pub named : List Entry → List ℕ
+named [] = []
+named (told e ∷ xs) = e ∷ named xs
+named (act e id action ∷ xs) = e ∷ named xs
+named (observe o ∷ xs) = named xs
+named (unseen o ∷ xs) = named xs
+named (closing e id action ∷ xs) = e ∷ named xs
+
+-- numbers from n on, none below the one before it
+abbrev pub IsRising : ℕ → List ℕ → Type 0
+IsRising n [] = Unit {0}
+IsRising n (e ∷ es) = (n ≤ e) × IsRising e es
+
+-- a legal log never names an older edition than before
+abbrev pub LogsNeverGoBack : Type 0
+LogsNeverGoBack = (m : Model) (editions : List Edition) (xs : List Entry) → IsLegalLog m editions xs → IsRising 0 (named xs)

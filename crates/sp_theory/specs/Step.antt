@@ -1,0 +1,39 @@
+-- What an action is worth where each joint observation leads to a vector: exactly, and with floors.
+use Rattle.std.proofs.Common.{ℕ, suc, ◌^◌, List, length, cond}
+use Rattle.std.specs.Prelude.{ℤ, ◌+ℤ◌}
+use Rattle.std.specs.Int.{int_max}
+use Rattle.sp_theory.specs.Sums.{times, floor}
+use Rattle.sp_theory.specs.Draws.{q, mean, weighed}
+use Rattle.sp_theory.specs.Model.{Model, Vector, least_return, ignores_next}
+
+-- the vector that each joint observation leads to
+abbrev pub Links : Type 0
+Links = List ℕ → Vector
+
+-- the value of the links at a next state, the observation variables weighed out
+abbrev pub linked : Model → ℕ → Links → Vector
+linked m a links next = weighed m.sight_sizes (m.sights a next) (λ seen. links seen next)
+
+-- times the discount, rounded down
+abbrev pub discounted : Model → ℤ → ℤ
+discounted m z = floor (times m.discount z) q
+
+-- the floored one-step value. Where the reward ignores the next state, this is weighed out first, then discount and reward follow (the reward is read at next = s);
+-- else discount and reward come first. The least return is put under the result
+unfoldable pub step : Model → ℕ → Links → Vector
+step m a links s =
+    int_max (least_return m) (cond (ignores_next m a)
+    (m.reward a s s +ℤ discounted m (weighed m.sizes (m.moves a s) (linked m a links)))
+    (weighed m.sizes (m.moves a s) (λ next. m.reward a s next +ℤ discounted m (linked m a links next))))
+
+-- the expected reward of an action at a state, over q for each state variable
+abbrev pub expected_reward : Model → ℕ → Vector
+expected_reward m a s = mean m.sizes (m.moves a s) (m.reward a s)
+
+-- the expected value of the links, over q for each variable
+abbrev pub expected_links : Model → ℕ → Links → Vector
+expected_links m a links s = mean m.sizes (m.moves a s) (λ next. mean m.sight_sizes (m.sights a next) (λ seen. links seen next))
+
+-- the exact one-step value: expected reward plus discounted expected value of the links, over q to the depth
+unfoldable pub exact_step : Model → ℕ → Links → Vector
+exact_step m a links s = times (q ^ suc (length m.sight_sizes)) (expected_reward m a s) +ℤ times m.discount (expected_links m a links s)

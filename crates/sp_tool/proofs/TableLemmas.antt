@@ -1,0 +1,156 @@
+-- The table: what one cause bars of the others.
+use Rattle.std.proofs.Common.{◌≡◌, ℕ, ◌+◌, ◌<◌, ◌≤◌, List, [], ◌∷◌, length, take, Option, Some, None, Result, refl, ap, sym, ◌∙◌, subst, Contains, arith, replicate, OnOk, OnErr, Ok, Err, inl, inr, ◌⊎◌}
+use Rattle.std.proofs.lemmas.List.{append-nil, length-replicate, take_all}
+use Rattle.std.proofs.Math.Nat.{le_refl}
+use Rattle.sp_outside.specs.Folder.{Folder}
+use Rattle.sp_outside.specs.Written.{Written}
+use Rattle.sp_outside.specs.Counts.{Rose, HasCause}
+use Rattle.sp_outside.specs.Bytes.{Appended, AppendedPart, IfTold}
+use Rattle.sp_tool.specs.Jobs.{Job, plan, Asks, names}
+use Rattle.sp_tool.specs.Words.{Plan}
+use Rattle.sp_tool.specs.Table.{model_limit, Allows, Refuses, Declines, Told, Saw, Holds, Call, Cause, Tells, NoFault, Answers}
+use Rattle.sp_tool.specs.declared.status.Status.{Status}
+use Rattle.sp_tool.specs.declared.status.Status.TheVariants.{Done, Refused, Usage, NoMemory, ReadFault, WriteFault}
+use Rattle.sp_tool.specs.Faults.{status_of, line_of, Hinders, Bars}
+use Rattle.sp_tool.specs.declared.fault.Fault.{Fault}
+use Rattle.sp_tool.specs.declared.fault.Fault.TheVariants as Faults
+use Rattle.sp_tool.proofs.JobLemmas.{same_job}
+use Rattle.sp_tool.proofs.SourceLemmas.{not_faulty}
+
+-- some content that is as told and longer than the limit
+pub some_longer : (content : Option (List ℕ)) (limit : ℕ) → ((bytes : List ℕ) → content ≡ Some bytes → limit < length bytes) → (bytes : List ℕ) × Told content bytes × (limit < length bytes)
+some_longer None limit h = (replicate (limit + 1) 0, λ all e. cc, omega (arith, length-replicate {A = ℕ} (limit + 1) 0))
+some_longer (Some bytes) limit h = (bytes, λ all e. cc, h bytes refl)
+
+-- a line is told as a whole, or in part where the count rose
+pub tells : (line : List ℕ) (err gone : Written) {T E : Type 0} (r : Result T E) → OnOk r (Appended err.bytes gone.bytes line) → OnErr r (AppendedPart err.bytes gone.bytes line) → HasCause err.faults gone.faults r → Tells line err gone
+tells line err gone (Ok x) whole part cause = record { part = inl whole; whole = λ still. whole }
+tells line err gone (Err x) whole part cause = record { part = inr part; whole = λ still. absurd (still cause.failed) }
+
+-- nothing is told on an err that is as it was
+pub tells_nothing : (err : Written) → Tells [] err err
+tells_nothing err = record { part = inl (λ b e. rw append-nil e); whole = λ still b e. rw append-nil e }
+
+-- a job has read one file where its files are accepted or refused
+allowed_length : (job : Job) (files : List (List ℕ)) (text : List ℕ) → Allows job files text → length files ≡ 1
+allowed_length (plan p) [] text may = elim may [ ]
+allowed_length (plan p) (source ∷ []) text may = refl
+allowed_length (plan p) (source ∷ (next ∷ more)) text may = elim may [ ]
+
+refused_length : (job : Job) (files : List (List ℕ)) (line : List ℕ) → Refuses job files line → length files ≡ 1
+refused_length (plan p) [] line bars = elim bars [ ]
+refused_length (plan p) (source ∷ []) line bars = refl
+refused_length (plan p) (source ∷ (next ∷ more)) line bars = elim bars [ ]
+
+declined_length : (job : Job) (files : List (List ℕ)) (line : List ℕ) → Declines job files line → length files ≡ 1
+declined_length (plan p) [] line bars = elim bars [ ]
+declined_length (plan p) (source ∷ []) line bars = refl
+declined_length (plan p) (source ∷ (next ∷ more)) line bars = elim bars [ ]
+
+-- what is allowed isn't refused
+not_both : (job : Job) (files : List (List ℕ)) (line text : List ℕ) → Allows job files text → Refuses job files line → ⊥
+not_both (plan p) (source ∷ []) line text may (inl long) = omega (arith, long.0, may.0)
+not_both (plan p) (source ∷ []) line text may (inr form) = not_faulty source may.1.0 form.1.0 form.1.1.0 may.1.1 form.1.1.1
+not_both (plan p) [] line text may bars = elim may [ ]
+not_both (plan p) (source ∷ (next ∷ more)) line text may bars = elim may [ ]
+
+-- the bytes of the files as they are told are those that were seen
+same_files : (store : Folder) (names held seen : List (List ℕ)) → Holds store names held → Saw store names seen → length held ≡ length seen → held ≡ seen
+same_files store names [] [] holds saw e = refl
+same_files store names [] (s ∷ seen) holds saw e = absurd (omega arith)
+same_files store names (h ∷ held) [] holds saw e = absurd (omega arith)
+same_files store [] (h ∷ held) (s ∷ seen) holds saw e = elim holds [ ]
+same_files store (name ∷ names) (h ∷ held) (s ∷ seen) holds saw e =
+    let one : s ≡ h = saw.0 h holds.0 in
+    let rest = same_files store names held seen holds.1 saw.1 (omega arith) in
+    cc
+
+-- what is told as accepted isn't seen as refused
+held_allowed : (store : Folder) (job other : Job) (held seen : List (List ℕ)) (line text : List ℕ) → job ≡ other → Holds store (names job) held → Saw store (names other) seen → Allows job held text → Refuses other seen line → ⊥
+held_allowed store job other held seen line text same holds saw may bars =
+    let bars' : Refuses job seen line = rw same bars in
+    let saw' : Saw store (names job) seen = rw same saw in
+    let e : held ≡ seen = same_files store (names job) held seen holds saw' (allowed_length job held text may ∙ sym (refused_length job seen line bars')) in
+    not_both job held line text may (rw e bars')
+
+-- what is told as refused isn't seen as accepted
+held_refused : (store : Folder) (job other : Job) (held seen : List (List ℕ)) (line text : List ℕ) → job ≡ other → Holds store (names job) held → Saw store (names other) seen → Refuses job held line → Allows other seen text → ⊥
+held_refused store job other held seen line text same holds saw bars may =
+    let may' : Allows job seen text = rw same may in
+    let saw' : Saw store (names job) seen = rw same saw in
+    let e : held ≡ seen = same_files store (names job) held seen holds saw' (refused_length job held line bars ∙ sym (allowed_length job seen text may')) in
+    not_both job seen line text may' (rw (← e) bars)
+
+module _ (c : Call) where
+  usage_of : (status : Status) (line : List ℕ) → Cause c status line → ((job : Job) → ¬ (Asks c.words job)) → Contains (Usage ∷ NoMemory ∷ []) status
+  usage_of Done line cause none = absurd (none cause.0 cause.1)
+  usage_of Refused line cause none = absurd (none cause.0 cause.1)
+  usage_of Usage line cause none = (0, omega arith, refl)
+  usage_of NoMemory line cause none = (1, omega arith, refl)
+  usage_of ReadFault line cause none = absurd (none cause.0 cause.1)
+  usage_of WriteFault line cause none = absurd (none cause.0 cause.1)
+
+  module _ (job : Job) (files : List (List ℕ)) (asks : Asks c.words job) (holds : Holds c.store (names job) files) where
+    refused_of : (why line : List ℕ) (status : Status) → Cause c status line → Refuses job files why → Contains (Refused ∷ ReadFault ∷ NoMemory ∷ []) status
+    refused_of why line Done cause bars = absurd (held_refused c.store job cause.0 files cause.2.0 why cause.2.2.0 (same_job c.words job cause.0 asks cause.1) holds cause.2.1 bars cause.2.2.1)
+    refused_of why line Refused cause bars = (0, omega arith, refl)
+    refused_of why line Usage cause bars = absurd (cause.0 job asks)
+    refused_of why line NoMemory cause bars = (2, omega arith, refl)
+    refused_of why line ReadFault cause bars = (1, omega arith, refl)
+    refused_of why line WriteFault cause bars = absurd (held_refused c.store job cause.0 files cause.2.0 why cause.2.2.0 (same_job c.words job cause.0 asks cause.1) holds cause.2.1 bars cause.2.2.1)
+
+    complete_of : (text line : List ℕ) (status : Status) → Cause c status line → Allows job files text → NoFault c job → Contains (Done ∷ Refused ∷ NoMemory ∷ []) status
+    complete_of text line Done cause may still = (0, omega arith, refl)
+    complete_of text line Refused cause may still = (1, omega arith, refl)
+    complete_of text line Usage cause may still = absurd (cause.0 job asks)
+    complete_of text line NoMemory cause may still = (2, omega arith, refl)
+    complete_of text line ReadFault cause may still =
+        let same = same_job c.words job cause.0 asks cause.1 in
+        let named : Contains (names job) cause.2.0 = rw same cause.2.1 in
+        absurd (still.reads cause.2.0 named cause.2.2)
+    complete_of text line WriteFault cause may still = absurd (still.writes cause.2.2.3)
+
+-- a cause and its line are an answer
+pub answers : (c : Call) (err gone : Written) (status : Status) (line : List ℕ) → Cause c status line → Tells line err gone → (status ≡ Done → gone ≡ err) → Answers c err gone status
+answers c err gone status line cause told quiet = record {
+  cause = (line, cause, told);
+  quiet = quiet;
+  usage = usage_of c status line cause;
+  refused = λ job files why asks holds bars. refused_of c job files asks holds why line status cause bars;
+  complete = λ job files text asks holds may still. complete_of c job files asks holds text line status cause may still;
+}
+
+-- what hinders a job is a cause
+pub hindered : (words : List (List ℕ)) (store later : Folder) (out : Written) (job : Job) (fault : Fault) → Asks words job → Hinders job store later fault
+    → Cause (record { words = words; store = store; later = later; out = out; end = out }) (status_of fault) (line_of fault)
+hindered words store later out job Faults.NoMemory asks h = (refl, refl)
+hindered words store later out job (Faults.Refused line) asks h = (job, asks, (h.0, h.1, h.2, refl))
+hindered words store later out job (Faults.ReadFault line) asks h = (job, asks, (h.0, h.1, h.2, h.3, refl))
+hindered words store later out job Faults.Usage asks h = elim h [ ]
+hindered words store later out job Faults.WriteFault asks h = elim h [ ]
+
+not_done : (fault : Fault) → status_of fault ≡ Done → ⊥
+not_done Faults.NoMemory e = cc
+not_done (Faults.Refused line) e = cc
+not_done (Faults.ReadFault line) e = cc
+not_done Faults.Usage e = cc
+not_done Faults.WriteFault e = cc
+
+-- a fault whose line was told is an answer
+pub ends : (words : List (List ℕ)) (store later : Folder) (out end err gone : Written) (fault : Fault) (line : List ℕ) (status : Status) {T E : Type 0} (r : Result T E)
+    → Cause (record { words = words; store = store; later = later; out = out; end = end }) (status_of fault) (line_of fault)
+    → line ≡ line_of fault → status ≡ status_of fault
+    → OnOk r (Appended err.bytes gone.bytes line) → OnErr r (AppendedPart err.bytes gone.bytes line) → HasCause err.faults gone.faults r
+    → Answers (record { words = words; store = store; later = later; out = out; end = end }) err gone status
+ends words store later out end err gone fault line status r cause e s whole part risen =
+    let cause' : Cause (record { words = words; store = store; later = later; out = out; end = end }) status line = rw (e, s) cause in
+    answers (record { words = words; store = store; later = later; out = out; end = end }) err gone status line cause' (tells line err gone r whole part risen) (λ done. absurd (not_done fault (sym s ∙ done)))
+
+-- what bars a text hinders the plan of the model whose bytes it is
+pub barred : (store later : Folder) (p : Plan) (source : List ℕ) (fault : Fault) → Told (store.content p.model) source → length source ≤ model_limit → Bars p.model source fault → Hinders (plan p) store later fault
+barred store later p source Faults.NoMemory told fits bars = tt
+barred store later p source (Faults.Refused line) told fits (inl faulty) = (source ∷ [], (told, tt), inl (inr (fits, faulty)))
+barred store later p source (Faults.Refused line) told fits (inr declined) = (source ∷ [], (told, tt), inr (fits, declined))
+barred store later p source (Faults.ReadFault line) told fits bars = elim bars [ ]
+barred store later p source Faults.Usage told fits bars = elim bars [ ]
+barred store later p source Faults.WriteFault told fits bars = elim bars [ ]

@@ -1,0 +1,102 @@
+-- Which status a call may give, and what it writes.
+use Rattle.std.specs.Prelude.{◌≡◌, ℕ, ◌<◌, ◌≤◌, List, [], ◌∷◌, length, take, Option, Some, Contains, codes, ⊤, ◌⊎◌}
+use Rattle.sp_outside.specs.Folder.{Folder}
+use Rattle.sp_outside.specs.Written.{Written}
+use Rattle.sp_outside.specs.Counts.{Rose}
+use Rattle.sp_outside.specs.Bytes.{Appended, AppendedPart, IfTold}
+use Rattle.sp_syntax.specs.declared.text.Text.{Text}
+use Rattle.sp_tool.specs.Jobs.{Job, plan, Asks, names}
+use Rattle.sp_tool.specs.Lines.{usage_line, no_memory_line, cannot_write_line, cannot_read_line, too_long_line, refused_line}
+use Rattle.sp_tool.specs.PlanText.{IsOneStage}
+use Rattle.sp_tool.specs.Sources.{IsTreeOf, IsFaulty}
+use Rattle.sp_tool.specs.declared.status.Status.{Status}
+use Rattle.sp_tool.specs.declared.status.Status.TheVariants.{Done, Refused, Usage, NoMemory, ReadFault, WriteFault}
+
+-- how many bytes a model file may have
+abbrev pub model_limit : ℕ
+model_limit = 16777216
+
+-- for these bytes of its files a job may write this text
+abbrev pub Allows : Job → List (List ℕ) → List ℕ → Type 0
+Allows (plan p) (source ∷ []) text =
+    (length source ≤ model_limit) × ((tree : Text) × IsTreeOf source tree × ((action : ℕ) × ((links : List ℕ) × IsOneStage tree text action links)))
+Allows (plan p) files text = ⊥
+
+-- the last of these bytes is too long, or at fault by its tokens or its grammar, which this line tells
+abbrev pub Refuses : Job → List (List ℕ) → List ℕ → Type 0
+Refuses (plan p) (source ∷ []) line =
+    ((model_limit < length source) × (line ≡ too_long_line p.model model_limit))
+    ⊎ ((length source ≤ model_limit) × ((at : ℕ) × ((kind : List ℕ) × IsFaulty source at kind × (line ≡ refused_line p.model at kind))))
+Refuses (plan p) files line = ⊥
+
+-- the last of these bytes is of the grammar, and this line tells that such a model isn't planned for yet
+abbrev pub Declines : Job → List (List ℕ) → List ℕ → Type 0
+Declines (plan p) (source ∷ []) line =
+    (length source ≤ model_limit) × ((tree : Text) × IsTreeOf source tree × (line ≡ refused_line p.model 0 (codes "NotBuilt")))
+Declines (plan p) files line = ⊥
+
+-- where the store tells a content, it is this
+abbrev pub Told : Option (List ℕ) → List ℕ → Type 0
+Told content bytes = IfTold content (λ all. bytes ≡ all)
+
+-- the first of these names had these bytes
+abbrev pub Saw : Folder → List (List ℕ) → List (List ℕ) → Type 0
+Saw store names [] = ⊤
+Saw store [] (bytes ∷ files) = ⊥
+Saw store (name ∷ names) (bytes ∷ files) = Told (store.content name) bytes × Saw store names files
+
+-- the store tells these bytes of the first of these names
+abbrev pub Holds : Folder → List (List ℕ) → List (List ℕ) → Type 0
+Holds store names [] = ⊤
+Holds store [] (bytes ∷ files) = ⊥
+Holds store (name ∷ names) (bytes ∷ files) = (store.content name ≡ Some bytes) × Holds store names files
+
+-- a call: its words, and the store and the out before and after it
+pub record Call : Type 0 where
+  pub words : List (List ℕ)
+  pub store : Folder
+  pub later : Folder
+  pub out : Written
+  pub end : Written
+
+-- why a call gives a status, and the line that it owes to err
+abbrev pub Cause : Call → Status → List ℕ → Type 0
+Cause c Done line =
+    (job : Job) × Asks c.words job
+    × ((files : List (List ℕ)) × Saw c.store (names job) files
+    × ((text : List ℕ) × Allows job files text × Appended c.out.bytes c.end.bytes text × (line ≡ [])))
+Cause c Refused line =
+    (job : Job) × Asks c.words job
+    × ((files : List (List ℕ)) × Saw c.store (names job) files × (Refuses job files line ⊎ Declines job files line) × (c.end ≡ c.out))
+Cause c Usage line =
+    ((job : Job) → ¬ (Asks c.words job)) × (line ≡ usage_line) × (c.later ≡ c.store) × (c.end ≡ c.out)
+Cause c NoMemory line = (line ≡ no_memory_line) × (c.end ≡ c.out)
+Cause c ReadFault line =
+    (job : Job) × Asks c.words job
+    × ((name : List ℕ) × Contains (names job) name × Rose (c.store.faults name) (c.later.faults name)
+    × (line ≡ cannot_read_line name) × (c.end ≡ c.out))
+Cause c WriteFault line =
+    (job : Job) × Asks c.words job
+    × ((files : List (List ℕ)) × Saw c.store (names job) files
+    × ((text : List ℕ) × Allows job files text × AppendedPart c.out.bytes c.end.bytes text
+    × Rose c.out.faults c.end.faults × (line ≡ cannot_write_line)))
+
+-- err gained a part of the line, and all of it where its count did not rise
+pub record Tells (line : List ℕ) (err gone : Written) : Type 0 where
+  pub part : Appended err.bytes gone.bytes line ⊎ AppendedPart err.bytes gone.bytes line
+  pub whole : ¬ (Rose err.faults gone.faults) → Appended err.bytes gone.bytes line
+
+-- no read of a file of the job and no write failed
+pub record NoFault (c : Call) (job : Job) : Type 0 where
+  pub reads : (name : List ℕ) → Contains (names job) name → ¬ (Rose (c.store.faults name) (c.later.faults name))
+  pub writes : ¬ (Rose c.out.faults c.end.faults)
+
+-- a status of which each has its cause, and which is one that words and files ask for
+pub record Answers (c : Call) (err gone : Written) (status : Status) : Type 0 where
+  pub cause : (line : List ℕ) × Cause c status line × Tells line err gone
+  pub quiet : status ≡ Done → gone ≡ err
+  pub usage : ((job : Job) → ¬ (Asks c.words job)) → Contains (Usage ∷ NoMemory ∷ []) status
+  pub refused : (job : Job) (files : List (List ℕ)) (line : List ℕ) → Asks c.words job → Holds c.store (names job) files
+      → Refuses job files line → Contains (Refused ∷ ReadFault ∷ NoMemory ∷ []) status
+  pub complete : (job : Job) (files : List (List ℕ)) (text : List ℕ) → Asks c.words job → Holds c.store (names job) files
+      → Allows job files text → NoFault c job → Contains (Done ∷ Refused ∷ NoMemory ∷ []) status

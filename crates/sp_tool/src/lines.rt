@@ -1,0 +1,32 @@
+//! The lines that are told on err.
+
+ghost use Rattle.std.specs.Prelude.{◌≡◌, IfOk, string_bytes};
+ghost use Rattle.sp_tool.specs.Lines.{too_long_line, refused_line, cannot_read_line};
+
+use std::alloc::{AllocError, Global};
+
+/// The line for a file that is longer than its limit.
+pub fn write_too_long_line(alloc: Global, file: &str, limit: u64) -> Result<String, AllocError>
+    ensures { IfOk result (λ s. string_bytes s ≡ too_long_line file.now limit) }
+{
+    format!(in alloc; "perseus: refused: {file}: longer than {limit} bytes\n")
+}
+
+/// The line for a file that isn't accepted, for what stands at this byte.
+pub fn write_refused_line(
+    alloc: Global,
+    file: &str,
+    at: u64,
+    kind: &str,
+) -> Result<String, AllocError>
+    ensures { IfOk result (λ s. string_bytes s ≡ refused_line file.now at kind.now) }
+{
+    format!(in alloc; "perseus: refused: {file}: byte {at}: {kind}\n")
+}
+
+/// The line for a file that can't be read.
+pub fn write_cannot_read_line(alloc: Global, file: &str) -> Result<String, AllocError>
+    ensures { IfOk result (λ s. string_bytes s ≡ cannot_read_line file.now) }
+{
+    format!(in alloc; "perseus: cannot read {file}\n")
+}
