@@ -8,8 +8,7 @@ use Rattle.sp_theory.specs.Model.{Model}
 use Rattle.sp_theory.specs.Plan.{Record, record_at, link_of}
 use Rattle.sp_theory.specs.Values.{Member, Edition, dot, greatest_member, value}
 use Rattle.sp_theory.specs.Book.{Task, Book, Event, settle, publish, prune, end, editions, settled_record, settled_member, entering, entered, without, IsPresent, IsUnder, CanPrune, Allowed, after_event}
-use Rattle.sp_theory.specs.Agreement.{WeightsAgree, MembersAgree, EditionsAgree}
-use Rattle.sp_theory.specs.SessionLaws.{AllAgree}
+use Rattle.sp_theory.specs.Agreement.{WeightsAgree, MembersAgree, EditionsAgree, AllAgree}
 use Rattle.sp_theory.specs.BooksAgreement.{RecordAgrees, RecordsAgree, EntrantsAgree, BooksAgree}
 use Rattle.sp_theory.proofs.Steps.{step_same}
 use Rattle.sp_theory.proofs.Agreement.{dot_same, greatest_member_agrees, value_same, backup_same}

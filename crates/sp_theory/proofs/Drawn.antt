@@ -1,7 +1,8 @@
 -- The observation that a word draws.
 use Rattle.std.proofs.Common.{◌≡◌, ℕ, zero, suc, ◌+◌, ◌*◌, ◌^◌, ◌%◌, ◌<◌, ◌≤◌, List, length, refl, sym, ap, ◌∙◌, arith, add-one, zero-add, Bool, true, false, cond, subst, eqb, ◌≢◌, ◌⊎◌, inl, inr, Option, Some, None}
 use Rattle.std.proofs.Math.Dec.{leb}
-use Rattle.std.specs.Prelude.{ℤ, pos, ◌+ℤ◌, nat_lt, unwrap_or, is_some, IsSome}
+use Rattle.std.specs.Prelude.{ℤ, pos, ◌+ℤ◌, nat_lt, unwrap_or, is_some, IsSome, All}
+use Rattle.std.proofs.lemmas.List.FromFn.{get_or-map-range_with_len, length-map-range_with_len}
 use Rattle.std.specs.List.{range_with_len, find}
 use Rattle.std.proofs.lemmas.Int.{ints}
 use Rattle.std.proofs.lemmas.Bool.{leb-true, leb-false}
@@ -9,19 +10,20 @@ use Rattle.std.proofs.lemmas.Bool.Decides.{eqb_tells}
 use Rattle.std.proofs.lemmas.Nat.{mod_below, mul-le}
 use Rattle.sp_theory.specs.Sums.{sum_below}
 use Rattle.sp_theory.specs.Points.{point_of}
-use Rattle.sp_theory.specs.Model.{Model, IsLawful, HasInitial}
+use Rattle.sp_theory.specs.Model.{Model, all_own, IsLawful, HasInitial}
 use Rattle.sp_theory.specs.Values.{Weights}
 use Rattle.sp_theory.specs.Scaling.{total_weight, IsScaled}
 use Rattle.sp_theory.specs.Beliefs.{initial_weights, unscaled_next, next_weights}
-use Rattle.sp_theory.specs.Samples.{Chooser, total_seen, running_total, whole_total, drawn_observation, sample_after, parent_weights, sampled}
-use Rattle.sp_theory.specs.BeliefLaws.{states, observations, DrawnIsSeen, KeepsWeight, LimitsKeepWeight, IsSampled, SampleIsNext}
+use Rattle.sp_theory.specs.Samples.{IsFirst, Chooser, Sample, first_sample, sample_at, samples, IsNext, AreSamplesOf, total_seen, running_total, whole_total, drawn_observation, sample_after, parent_weights, sampled}
+use Rattle.sp_theory.specs.BeliefLaws.{states, observations, DrawnIsSeen, KeepsWeight, LimitsKeepWeight, IsSampled, SampleIsNext, KeepsInitial, AnswersBelow, SamplesAreNext}
+use Rattle.sp_theory.specs.Agreement.{NextAgree}
 use Rattle.sp_theory.proofs.Unseen.{pos-sum_by, something_seen}
 use Rattle.sp_theory.proofs.Scales.{next_scaled}
-use Rattle.sp_theory.proofs.Initial.{initial_scaled}
+use Rattle.sp_theory.proofs.Initial.{initial_scaled, owned_most}
 use Rattle.sp_theory.proofs.Numbers.{point_of-point}
 
 -- a number at which a rising count first exceeds a target
-pub record IsFirst (count : ℕ → ℕ) (target a n o : ℕ) : Type 0 where
+pub record IsFirstAbove (count : ℕ → ℕ) (target a n o : ℕ) : Type 0 where
   pub from : a ≤ o
   pub below : o < a + n
   pub before : count o ≤ target
@@ -29,7 +31,7 @@ pub record IsFirst (count : ℕ → ℕ) (target a n o : ℕ) : Type 0 where
 
 -- the search finds it
 find_first : (count : ℕ → ℕ) (target a n : ℕ) → count a ≤ target → target < count (a + n)
-    → (o : ℕ) × (find (λ o. nat_lt target (count (suc o))) (range_with_len a n) ≡ Some o) × IsFirst count target a n o
+    → (o : ℕ) × (find (λ o. nat_lt target (count (suc o))) (range_with_len a n) ≡ Some o) × IsFirstAbove count target a n o
 find_first count target a zero low high = absurd (let same = ap count (none a) in omega (arith, low, high, same))
   where
     none : (a : ℕ) → a + 0 ≡ a
@@ -37,7 +39,7 @@ find_first count target a zero low high = absurd (let same = ap count (none a) i
 find_first count target a (suc n) low high = by_test (leb (suc target) (count (suc a))) refl (find_first count target (suc a) n)
   where
     Found : Bool → Type 0
-    Found b = (o : ℕ) × (cond b (Some a) (find (λ o. nat_lt target (count (suc o))) (range_with_len (a + 1) n)) ≡ Some o) × IsFirst count target a (suc n) o
+    Found b = (o : ℕ) × (cond b (Some a) (find (λ o. nat_lt target (count (suc o))) (range_with_len (a + 1) n)) ≡ Some o) × IsFirstAbove count target a (suc n) o
 
     more : target < count (suc a + n)
     more = subst (λ (k : ℕ). target < count k) (moved a n) high
@@ -46,7 +48,7 @@ find_first count target a (suc n) low high = by_test (leb (suc target) (count (s
         moved a n = omega arith
 
     by_test : (b : Bool) → leb (suc target) (count (suc a)) ≡ b
-        → (count (suc a) ≤ target → target < count (suc a + n) → (o : ℕ) × (find (λ o. nat_lt target (count (suc o))) (range_with_len (suc a) n) ≡ Some o) × IsFirst count target (suc a) n o)
+        → (count (suc a) ≤ target → target < count (suc a + n) → (o : ℕ) × (find (λ o. nat_lt target (count (suc o))) (range_with_len (suc a) n) ≡ Some o) × IsFirstAbove count target (suc a) n o)
         → Found b
     by_test true e rest = (a, refl, record { from = omega arith; below = omega arith; before = low; exceeds = leb-true _ _ e })
     by_test false e rest =
@@ -79,7 +81,7 @@ drawn_seen m w a word some = with_found (find_first (running_total m w a) target
     by_test n v more true (inl (is, none)) e = absurd (omega (arith, more, none))
     by_test n v more true (inr (is, differ)) e = absurd (cc)
 
-    with_found : (o : ℕ) × (find (λ o. nat_lt target (running_total m w a (suc o))) (range_with_len 0 (observations m)) ≡ Some o) × IsFirst (running_total m w a) target 0 (observations m) o → seen (drawn_observation m w a word)
+    with_found : (o : ℕ) × (find (λ o. nat_lt target (running_total m w a (suc o))) (range_with_len 0 (observations m)) ≡ Some o) × IsFirstAbove (running_total m w a) target 0 (observations m) o → seen (drawn_observation m w a word)
     with_found (o, found, is) = subst seen (sym (ap (λ (x : Option ℕ). unwrap_or x 0) found)) (
       omega (arith, is.below),
       by_test (total_weight m (unscaled_next m w a (point_of m.sight_sizes o))) _ (let more = running_total_more m w a o in omega (arith, more, is.before, is.exceeds)) (eqb (total_weight m (unscaled_next m w a (point_of m.sight_sizes o))) 0) (eqb_tells _ 0) refl,
@@ -99,7 +101,7 @@ sample_next m lawful keeps w scale a known word =
     some_is None d e = absurd (cc)
 
 pub limits_keep : LimitsKeepWeight
-limits_keep m few many less fewer = (few_lost, factors_few)
+limits_keep m few many less fewer = (few_lost, owned_few)
   where
     few_lost : KeepsWeight m
     few_lost =
@@ -107,12 +109,12 @@ limits_keep m few many less fewer = (few_lost, factors_few)
         let seen = mul-le (length m.sight_sizes) (states m * observations m) 8 (2 ^ 24 * 4096) less (mul-le (states m) (observations m) (2 ^ 24) 4096 many fewer) in
         omega (arith, moved, seen)
 
-    factors_few : length m.factors ≤ 24 → length m.factors * states m < 2 ^ 62
-    factors_few h = let all = mul-le (length m.factors) (states m) 24 (2 ^ 24) h many in omega (arith, all)
+    owned_few : HasInitial m → KeepsInitial m
+    owned_few law = let owned = owned_most m law in let all = mul-le (length (all_own m.factors)) (states m) 24 (2 ^ 24) (omega (arith, owned, few)) many in omega (arith, all)
 
 -- each belief of the samples is to scale, and each after the first is the next one of its parent
-module _ {S : Type 0} (m : Model) (lawful : IsLawful m) (initial : HasInitial m) (some : 0 < states m) (factors : length m.factors * states m < 2 ^ 62) (keeps : KeepsWeight m)
-    (chooser : Chooser S) (answers : (state : S) (depth actions word : ℕ) → 0 < actions → chooser.answer state depth actions word < actions) (depth : ℕ) (words : List ℕ) where
+module _ {S : Type 0} (m : Model) (lawful : IsLawful m) (initial : HasInitial m) (some : 0 < states m) (factors : KeepsInitial m) (keeps : KeepsWeight m)
+    (chooser : Chooser S) (answers : AnswersBelow chooser) (depth : ℕ) (words : List ℕ) where
   parent_scaled : (k : ℕ) (w : Weights) → IsScaled m w → IsScaled m (parent_weights m depth k w)
   parent_scaled k w scale = by_test (eqb (k % depth) 0)
     where
@@ -128,3 +130,42 @@ module _ {S : Type 0} (m : Model) (lawful : IsLawful m) (initial : HasInitial m)
   pub sampled_next : (k : ℕ) → IsSampled m (parent_weights m depth k (sampled m chooser depth words k).0.weights) (sampled m chooser depth words (suc k)).0
   unfolding sampled
   sampled_next k = sample_next m lawful keeps _ (parent_scaled k _ (sampled_scaled k)) _ (answers (sampled m chooser depth words k).1 (k % depth) m.actions _ lawful.some_action) _
+
+  opening_first : IsFirst m (sampled m chooser depth words 0).0
+  unfolding sampled
+  opening_first = record { action = refl; observation = refl; weights = λ s at. refl }
+
+  -- sample k of a list
+  sample_is : (count k : ℕ) → k < count → sample_at m (samples m chooser depth words count) k ≡ (sampled m chooser depth words k).0
+  sample_is count k less = get_or-map-range_with_len (λ i. (sampled m chooser depth words i).0) 0 count k k (first_sample m) less (zero-add k)
+
+  some_agree : (o : Option Weights) (w : Weights) → o ≡ Some w → NextAgree m o (Some w)
+  some_agree o w is = subst (λ (x : Option Weights). NextAgree m x (Some w)) (sym is) (λ s at. refl)
+
+  is_next : (parent : Weights) (x : Sample) → IsSampled m parent x → IsNext m parent x
+  is_next parent x is = record { known = is.known; seen = is.seen; next = some_agree _ x.weights is.next }
+
+  are_samples : (count : ℕ) → AreSamplesOf m depth (samples m chooser depth words count)
+  are_samples count = record {
+    first = λ some. subst (IsFirst m) (sym (sample_is count 0 (less_of some))) opening_first;
+    later = λ k less.
+        let within = suc_less k less in
+        subst (λ (x : Sample). IsNext m (parent_weights m depth k x.weights) (sample_at m (samples m chooser depth words count) (suc k))) (sym (sample_is count k (omega (arith, within))))
+        (subst (IsNext m (parent_weights m depth k (sampled m chooser depth words k).0.weights)) (sym (sample_is count (suc k) within)) (is_next _ _ (sampled_next k)));
+  }
+    where
+      less_of : 0 < length (samples m chooser depth words count) → 0 < count
+      less_of some = omega (arith, some, length-map-range_with_len (λ i. (sampled m chooser depth words i).0) 0 count)
+
+      suc_less : (k : ℕ) → suc k < length (samples m chooser depth words count) → suc k < count
+      suc_less k less = omega (arith, less, length-map-range_with_len (λ i. (sampled m chooser depth words i).0) 0 count)
+
+  all_scaled : (count : ℕ) → All (λ x. IsScaled m x.weights) (samples m chooser depth words count)
+  all_scaled count k d less =
+      let within : k < count = omega (arith, less, length-map-range_with_len (λ i. (sampled m chooser depth words i).0) 0 count) in
+      subst (λ (x : Sample). IsScaled m x.weights) (sym (get_or-map-range_with_len (λ i. (sampled m chooser depth words i).0) 0 count k k d within (zero-add k))) (sampled_scaled k)
+
+-- for choosers with states of every type
+pub samples_next : (S : Type 0) → SamplesAreNext S
+samples_next S m lawful initial some factors keeps chooser answers depth words count =
+    (are_samples m lawful initial some factors keeps chooser answers depth words count, all_scaled m lawful initial some factors keeps chooser answers depth words count)

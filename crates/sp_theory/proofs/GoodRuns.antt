@@ -8,7 +8,6 @@ use Rattle.sp_theory.specs.Runs.{IsHistory, replay}
 use Rattle.sp_theory.specs.Laws.{IsGood}
 use Rattle.sp_theory.proofs.Whole.{≤ℤ_trans}
 use Rattle.sp_theory.proofs.Weighing.{le_same}
-use Rattle.sp_theory.proofs.Greatest.{reached_value}
 use Rattle.sp_theory.proofs.Returns.{from_least, to_top, return_low}
 use Rattle.sp_theory.proofs.Sound.{IsSound, sound_opening, sound_replay}
 use Rattle.sp_theory.proofs.Tidy.{IsTidy, tidy_opening, tidy_replay}
@@ -29,7 +28,8 @@ good t lawful b sound tidy = record {
       ≤ℤ_trans (le_same (ap (times (q ^ (depth t.model * (get_or (get_or (editions b) n d) k c).id))) (λ h. member.1 h s)))
       (return_low t.model lawful b.records sound.plan sound.values _ _ s (omega arith) member.0 p);
   never_falls = sound.rising;
-  improves = λ k within up. reached_value t.model b.grown (t.samples k) _ (sound.reaches k within up);
+  improves = sound.reaches;
+  raisers = tidy.raisers;
   filled = tidy.filled;
   apart = tidy.apart;
   grown_apart = tidy.grown_apart;

@@ -1,6 +1,6 @@
 -- The initial weights are to scale.
-use Rattle.std.proofs.Common.{◌≡◌, ◌≢◌, ℕ, zero, suc, ◌*◌, ◌^◌, ◌<◌, ◌≤◌, List, [], ◌∷◌, length, get_or, map, refl, sym, ap, ◌∙◌, arith}
-use Rattle.std.specs.Prelude.{ℤ, pos, ◌+ℤ◌, ◌≤ℤ◌, All}
+use Rattle.std.proofs.Common.{◌≡◌, ◌≢◌, ℕ, zero, suc, ◌*◌, ◌^◌, ◌<◌, ◌≤◌, List, [], ◌∷◌, length, get_or, map, ◌+◌, ◌++◌, length-append, refl, sym, ap, ◌∙◌, subst, arith}
+use Rattle.std.specs.Prelude.{ℤ, pos, ◌+ℤ◌, ◌≤ℤ◌, ◌<ℤ◌, All}
 use Rattle.std.specs.List.{fold}
 use Rattle.std.proofs.lemmas.Int.{ints}
 use Rattle.std.proofs.lemmas.Nat.{mul-le}
@@ -15,13 +15,14 @@ use Rattle.sp_theory.specs.Model.{State, Factor, Model, all_own, DependsOnOwn, H
 use Rattle.sp_theory.specs.Scaling.{total_weight}
 use Rattle.sp_theory.specs.Beliefs.{unscaled_initial, Table, summed_out, all_summed_out}
 use Rattle.sp_theory.specs.BeliefLaws.{states, InitialIsScaled}
-use Rattle.sp_theory.proofs.Whole.{times-add, times-times, times-zero, times_mono, floor_below, floor_above, floor_most, times_cancel_le, ≤ℤ_trans}
+use Rattle.sp_theory.proofs.Whole.{times-add, times-times, times-zero, times_mono, floor_below, floor_above, floor_most, floor-times, times_cancel_le, ≤ℤ_trans}
 use Rattle.sp_theory.proofs.Weighing.{q_pos, le_same, times-swap, sum_over_same, sum_over_mono, sum_over-add, sum_over-times}
 use Rattle.sp_theory.proofs.Backups.{sum_over-constant, length-point, chance_part}
 use Rattle.sp_theory.proofs.Carried.{IsPoint-put, Every, positive_parts, all_same, all_mono, IgnoredBy, all-table}
 use Rattle.sp_theory.proofs.Updates.{all-over, pos-unsigned_abs}
 use Rattle.sp_theory.proofs.Unseen.{pos-total_weight, power_pos}
 use Rattle.sp_theory.proofs.Scales.{scaling_gives}
+use Rattle.sp_theory.proofs.Downs.{different_most}
 use Rattle.sp_theory.proofs.Once.{all-append, own-all, Apart, Apart-append, Apart-at, Every-append, one_kept, all-once}
 
 -- ---- points
@@ -116,6 +117,15 @@ module _ (sizes : List ℕ) where
   unfolding IsFactor
   share_at_most f whole low s p = let least = all_at_least f.own low f.share s p in let same = own-all sizes f.own (λ t. pos (f.share t)) s [] in let one = whole s p in omega (arith, ints, least, same, one)
 
+  -- without own variables it is one
+  share_without : (f : Factor) → IsFactor f → (s : State) → IsPoint sizes s → length f.own ≡ 0 → f.share s ≡ q
+  unfolding IsFactor sum_over_own
+  share_without f whole s p none = by_own f.own none (whole s p)
+    where
+      by_own : (own : List ℕ) → length own ≡ 0 → sum_over_own sizes own (λ t. pos (f.share t)) s ≡ pos q → f.share s ≡ q
+      by_own [] none is = omega (arith, ints, is)
+      by_own (i ∷ own) none is = absurd (omega (arith, none))
+
 -- ---- the factors one after another
 -- z times each factor, rounded down each time
 abbrev pub factored : List Factor → State → ℤ → ℤ
@@ -134,23 +144,43 @@ factored_low (f ∷ fs) s z =
     part : ℤ
     part = floor (times (f.share s) z) q
 
+-- each share is at most one, and one exactly where the factor has no own variable
 AreAtMost : State → List Factor → Type 0
-AreAtMost s fs = Every (λ f. f.share s ≤ q) fs
+AreAtMost s fs = Every (λ f. (f.share s ≤ q) × (length f.own ≡ 0 → f.share s ≡ q)) fs
 
 shares_most : (fs : List Factor) (s : State) → AreAtMost s fs → shares fs s [] ≤ q ^ length fs
 unfolding shares AreAtMost
 shares_most [] s small = omega (arith, pow-zero q)
-shares_most (f ∷ fs) s (one, small) = let all = mul-le (f.share s) (shares fs s []) q (q ^ length fs) one (shares_most fs s small) in omega (arith, all, pow-suc q (length fs))
+shares_most (f ∷ fs) s ((one, whole), small) = let all = mul-le (f.share s) (shares fs s []) q (q ^ length fs) one (shares_most fs s small) in omega (arith, all, pow-suc q (length fs))
 
-factored_high : (fs : List Factor) (s : State) (z : ℤ) → AreAtMost s fs → times (shares fs s []) z ≤ℤ times (q ^ length fs) (factored fs s z +ℤ pos (length fs))
+-- a factor takes at most one for each own variable
+part_high : (f : Factor) (s : State) (z : ℤ) → (f.share s ≤ q) × (length f.own ≡ 0 → f.share s ≡ q) → times (f.share s) z ≤ℤ times q (floor (times (f.share s) z) q +ℤ pos (length f.own))
+part_high f s z (one, whole) = by_own (length f.own) refl
+  where
+    by_own : (n : ℕ) → length f.own ≡ n → times (f.share s) z ≤ℤ times q (floor (times (f.share s) z) q +ℤ pos n)
+    by_own zero none =
+        let is = whole none in
+        subst (λ (k : ℕ). times k z ≤ℤ times q (floor (times k z) q +ℤ pos 0)) (sym is)
+        (times_mono q z _ (le_same (sym (+ℤ_idr (floor (times q z) q) ∙ floor-times q z q_pos))))
+    by_own (suc n) some =
+        let above = floor_above (times (f.share s) z) q q_pos in
+        ≤ℤ_trans (let up = above in lt_le up) (times_mono q _ _ (more (floor (times (f.share s) z) q)))
+      where
+        lt_le : {a b : ℤ} → a <ℤ b → a ≤ℤ b
+        lt_le h = omega (arith, ints, h)
+
+        more : (p : ℤ) → (p +ℤ pos 1) ≤ℤ (p +ℤ pos (suc n))
+        more p = omega (arith, ints)
+
+factored_high : (fs : List Factor) (s : State) (z : ℤ) → AreAtMost s fs → times (shares fs s []) z ≤ℤ times (q ^ length fs) (factored fs s z +ℤ pos (length (all_own fs)))
 unfolding shares AreAtMost
 factored_high [] s z small = le_same (sym (ap (λ (t : ℕ). times t (z +ℤ pos 0)) (pow-zero q) ∙ ap (times 1) (+ℤ_idr z)))
 factored_high (f ∷ fs) s z (one, small) =
     ≤ℤ_trans (le_same (ap (λ (t : ℕ). times t z) (mul_comm (f.share s) (shares fs s [])) ∙ times-times (shares fs s []) (f.share s) z))
-    (≤ℤ_trans (times_mono (shares fs s []) _ (times q (part +ℤ pos 1)) (let above = floor_above (times (f.share s) z) q q_pos in omega (arith, ints, above)))
-    (≤ℤ_trans (le_same (times-swap (shares fs s []) q (part +ℤ pos 1)))
+    (≤ℤ_trans (times_mono (shares fs s []) _ (times q (part +ℤ pos (length f.own))) (part_high f s z one))
+    (≤ℤ_trans (le_same (times-swap (shares fs s []) q (part +ℤ pos (length f.own))))
     (≤ℤ_trans (times_mono q _ _ (inside (factored_high fs s part small)))
-    (le_same (sym (ap (λ (t : ℕ). times t (rest +ℤ pos (suc (length fs)))) (pow-suc q (length fs) ∙ mul_comm (q ^ length fs) q) ∙ times-times q (q ^ length fs) _))))))
+    (le_same (sym (ap (λ (t : ℕ). times t (rest +ℤ pos (length (f.own ++ all_own fs)))) (pow-suc q (length fs) ∙ mul_comm (q ^ length fs) q) ∙ times-times q (q ^ length fs) _))))))
   where
     part : ℤ
     part = floor (times (f.share s) z) q
@@ -158,13 +188,25 @@ factored_high (f ∷ fs) s z (one, small) =
     rest : ℤ
     rest = factored fs s part
 
-    inside : times (shares fs s []) part ≤ℤ times (q ^ length fs) (rest +ℤ pos (length fs)) → times (shares fs s []) (part +ℤ pos 1) ≤ℤ times (q ^ length fs) (rest +ℤ pos (suc (length fs)))
+    few : ℕ
+    few = length (all_own fs)
+
+    inside : times (shares fs s []) part ≤ℤ times (q ^ length fs) (rest +ℤ pos few) → times (shares fs s []) (part +ℤ pos (length f.own)) ≤ℤ times (q ^ length fs) (rest +ℤ pos (length (f.own ++ all_own fs)))
     inside low =
-        let split = times-add (shares fs s []) part (pos 1) in
-        let most = shares_most fs s small in
-        let first = times-add (q ^ length fs) rest (pos (length fs)) in
-        let second = times-add (q ^ length fs) rest (pos (suc (length fs))) in
-        omega (arith, ints, low, split, most, first, second)
+        let split = times-add (shares fs s []) part (pos (length f.own)) in
+        let most : times (shares fs s []) (pos (length f.own)) ≤ℤ times (q ^ length fs) (pos (length f.own)) = as_whole (mul-le (shares fs s []) (length f.own) (q ^ length fs) (length f.own) (shares_most fs s small) (omega arith)) in
+        let second = times-add (q ^ length fs) (rest +ℤ pos few) (pos (length f.own)) in
+        let both : (times (shares fs s []) part +ℤ times (shares fs s []) (pos (length f.own))) ≤ℤ (times (q ^ length fs) (rest +ℤ pos few) +ℤ times (q ^ length fs) (pos (length f.own))) = sum_le low most in
+        ≤ℤ_trans (le_same split) (≤ℤ_trans both (≤ℤ_trans (le_same (sym second)) (times_mono (q ^ length fs) _ _ (joined rest few (length f.own) (length (f.own ++ all_own fs)) (length-append f.own (all_own fs))))))
+      where
+        as_whole : {a b : ℕ} → a ≤ b → pos a ≤ℤ pos b
+        as_whole h = omega (arith, ints, h)
+
+        sum_le : {a b c d : ℤ} → a ≤ℤ b → c ≤ℤ d → (a +ℤ c) ≤ℤ (b +ℤ d)
+        sum_le h k = omega (arith, ints, h, k)
+
+        joined : (r : ℤ) (a b n : ℕ) → n ≡ b + a → ((r +ℤ pos a) +ℤ pos b) ≤ℤ (r +ℤ pos n)
+        joined r a b n e = omega (arith, ints, e)
 
 factored_from_zero : (fs : List Factor) (s : State) (z : ℤ) → pos 0 ≤ℤ z → pos 0 ≤ℤ factored fs s z
 factored_from_zero [] s z h = h
@@ -174,6 +216,9 @@ factored_from_zero (f ∷ fs) s z h = factored_from_zero fs s _ (floor_most (tim
 module _ (m : Model) (law : HasInitial m) (some : 0 < states m) where
   abbrev count : ℕ
   count = length m.factors
+
+  abbrev owned_count : ℕ
+  owned_count = length (all_own m.factors)
 
   factors_whole : Every (IsFactor m.sizes) m.factors
   unfolding IsFactor
@@ -199,9 +244,9 @@ module _ (m : Model) (law : HasInitial m) (some : 0 < states m) where
   unfolding AreAtMost
   small s p = each m.factors factors_whole within
     where
-      each : (fs : List Factor) → Every (IsFactor m.sizes) fs → Every (λ i. i < length m.sizes) (all_own fs) → Every (λ f. f.share s ≤ q) fs
+      each : (fs : List Factor) → Every (IsFactor m.sizes) fs → Every (λ i. i < length m.sizes) (all_own fs) → Every (λ f. (f.share s ≤ q) × (length f.own ≡ 0 → f.share s ≡ q)) fs
       each [] whole low = tt
-      each (f ∷ fs) (here, whole) low = let two = Every-append (λ i. i < length m.sizes) f.own (all_own fs) low in (share_at_most m.sizes f here two.0 s p, each fs whole two.1)
+      each (f ∷ fs) (here, whole) low = let two = Every-append (λ i. i < length m.sizes) f.own (all_own fs) low in ((share_at_most m.sizes f here two.0 s p, share_without m.sizes f here s p), each fs whole two.1)
 
   unscaled-is : (s : State) → pos (unscaled_initial m s) ≡ factored m.factors s (pos (2 ^ 62))
   unfolding unscaled_initial
@@ -220,17 +265,21 @@ module _ (m : Model) (law : HasInitial m) (some : 0 < states m) where
       (≤ℤ_trans (sum_over_mono m.sizes _ (λ s. times (shares m.factors s []) (pos (2 ^ 62))) (λ s p. ≤ℤ_trans (le_same (ap (times (q ^ count)) (unscaled-is s))) (factored_low m.factors s (pos (2 ^ 62)))))
       (le_same exact-total)))
 
-  total_high : pos (2 ^ 62) ≤ℤ (pos (total_weight m (unscaled_initial m)) +ℤ times (states m) (pos count))
+  total_high : pos (2 ^ 62) ≤ℤ (pos (total_weight m (unscaled_initial m)) +ℤ times (states m) (pos owned_count))
   total_high = times_cancel_le (q ^ count) _ _ (power_pos count)
       (≤ℤ_trans (le_same (sym exact-total))
-      (≤ℤ_trans (sum_over_mono m.sizes _ (λ s. times (q ^ count) (pos (unscaled_initial m s) +ℤ pos count)) (λ s p. ≤ℤ_trans (factored_high m.factors s (pos (2 ^ 62)) (small s p)) (le_same (ap (λ (z : ℤ). times (q ^ count) (z +ℤ pos count)) (sym (unscaled-is s))))))
-      (le_same (sum_over-times m.sizes (q ^ count) _ ∙ ap (times (q ^ count)) (sum_over-add m.sizes _ _ ∙ (λ h. sym (pos-total_weight m (unscaled_initial m)) h +ℤ sum_over-constant m.sizes (pos count) h))))))
+      (≤ℤ_trans (sum_over_mono m.sizes _ (λ s. times (q ^ count) (pos (unscaled_initial m s) +ℤ pos owned_count)) (λ s p. ≤ℤ_trans (factored_high m.factors s (pos (2 ^ 62)) (small s p)) (le_same (ap (λ (z : ℤ). times (q ^ count) (z +ℤ pos owned_count)) (sym (unscaled-is s))))))
+      (le_same (sum_over-times m.sizes (q ^ count) _ ∙ ap (times (q ^ count)) (sum_over-add m.sizes _ _ ∙ (λ h. sym (pos-total_weight m (unscaled_initial m)) h +ℤ sum_over-constant m.sizes (pos owned_count) h))))))
 
 pub initial_scaled : InitialIsScaled
-initial_scaled m law some few = scaling_gives m (unscaled_initial m) (left (total_weight m (unscaled_initial m)) (states m) (length m.factors) (2 ^ 62) (total_high m law some) few) (below _ _ (total_low m law some))
+initial_scaled m law some few = scaling_gives m (unscaled_initial m) (left (total_weight m (unscaled_initial m)) (states m) (length (all_own m.factors)) (2 ^ 62) (total_high m law some) few) (below _ _ (total_low m law some))
   where
     left : (t n k large : ℕ) → pos large ≤ℤ (pos t +ℤ times n (pos k)) → k * n < large → 0 < t
     left t n k large high few = omega (arith, ints, high, few)
 
     below : (a b : ℕ) → pos a ≤ℤ pos b → a ≤ b
     below a b h = omega (arith, ints, h)
+
+-- each variable is owned once at most
+pub owned_most : (m : Model) → HasInitial m → length (all_own m.factors) ≤ length m.sizes
+owned_most m law = different_most (length m.sizes) (all_own m.factors) (All-Every (λ i. i < length m.sizes) (all_own m.factors) law.within) (Apart-at (all_own m.factors) law.apart)

@@ -26,8 +26,10 @@ pub mod Scales
 pub mod Carried
 pub mod Updates
 pub mod Unseen
-pub mod Initial
 pub mod Once
+pub mod Downs
+pub mod Initial
+pub mod Ends
 pub mod Drawn
 pub mod Agreement
 pub mod PairsAgreement

@@ -1,15 +1,16 @@
 -- Sessions and beliefs that agree at all states, and the editions that a log names.
-use Rattle.std.proofs.Common.{◌≡◌, ℕ, zero, suc, ◌*◌, ◌<◌, ◌≤◌, List, [], ◌∷◌, length, refl, sym, ap, ◌∙◌, Bool, true, false, cond, eqb, subst, Option, Some, None}
+use Rattle.std.proofs.Common.{◌≡◌, ◌≢◌, ℕ, zero, suc, ◌*◌, ◌<◌, ◌≤◌, List, [], ◌∷◌, length, refl, sym, ap, ◌∙◌, Bool, true, false, cond, eqb, subst, Option, Some, None}
 use Rattle.std.specs.Prelude.{ℤ, Contains, pos, unsigned_abs, is_some, slice_get, unwrap_or, option_and_then}
+use Rattle.std.proofs.lemmas.List.Elements.{All-cons, All-nil}
 use Rattle.sp_theory.specs.Points.{point_of}
 use Rattle.sp_theory.specs.Draws.{thinned}
 use Rattle.sp_theory.specs.Model.{Model}
 use Rattle.sp_theory.specs.Values.{Weights, Edition}
 use Rattle.sp_theory.specs.Scaling.{total_weight, greatest_power, scaled}
 use Rattle.sp_theory.specs.Beliefs.{moved, tables_of, first_state, unscaled_next, next_weights}
-use Rattle.sp_theory.specs.Agreement.{WeightsAgree, EditionsAgree}
-use Rattle.sp_theory.specs.Logs.{Entry, told, act, observe, unseen, closing, Session, Published, opening_session, all_of, seen_by, IsAnswer, observed, MayEnter, after_entry, IsLog}
-use Rattle.sp_theory.specs.SessionLaws.{NextAgree, SessionsAgree, ServesFor, AllTold, AllAgree, LegalLogsAgree, SeenLogsAreOfRuns, named, IsRising, LogsNeverGoBack}
+use Rattle.sp_theory.specs.Agreement.{WeightsAgree, EditionsAgree, NextAgree, AllAgree}
+use Rattle.sp_theory.specs.Logs.{Entry, told, act, observe, unseen, closing, Session, Published, opening_session, all_of, seen_by, IsAnswer, observed, MayEnter, after_entry, IsLog, session_after}
+use Rattle.sp_theory.specs.SessionLaws.{SessionsAgree, ServesFor, AllTold, LegalLogsAgree, SeenLogsAreOfRuns, named, IsRising, LogsNeverGoBack, ClosesOnce, LegalLogsCloseOnce}
 use Rattle.sp_theory.proofs.Agreement.{dot_same, greatest_member_agrees}
 use Rattle.sp_theory.proofs.Carried.{carried_same}
 use Rattle.sp_theory.proofs.Updates.{first_state_point}
@@ -167,3 +168,32 @@ rising m published s (closing e id action ∷ xs) (here, rest) = (here.1, rising
 pub logs_never_go_back : LogsNeverGoBack
 unfolding opening_session
 logs_never_go_back m editions xs (log, closed) = rising m (all_of editions) (opening_session m) xs log
+
+-- ---- the closing answer
+nothing_after : (m : Model) (published : Published) (s : Session) (xs : List Entry) → s.closed ≡ true → IsLog m published s xs → xs ≡ []
+unfolding IsLog MayEnter
+nothing_after m published s [] closed log = refl
+nothing_after m published s (told e ∷ xs) closed (here, log) = absurd (let going = here.0 in cc)
+nothing_after m published s (act e id action ∷ xs) closed (here, log) = absurd (let going = here.0 in cc)
+nothing_after m published s (observe o ∷ xs) closed (here, log) = absurd (let going = here.0 in cc)
+nothing_after m published s (unseen o ∷ xs) closed (here, log) = absurd (let going = here.0 in cc)
+nothing_after m published s (closing e id action ∷ xs) closed (here, log) = absurd (let going = here.0 in cc)
+
+-- an entry that is no closing answer, before others
+not_yet : (editions : List Edition) (x : Entry) (xs : List Entry) → ((f other answer : ℕ) → x ≢ closing f other answer) → ClosesOnce editions xs → ClosesOnce editions (x ∷ xs)
+not_yet editions x xs differs (front, e, id, action, is, last, all) =
+    (x ∷ front, e, id, action, ap (λ (ys : List Entry). x ∷ ys) is, last, All-cons (λ y. (f other answer : ℕ) → y ≢ closing f other answer) x front differs all)
+
+closes : (m : Model) (editions : List Edition) (s : Session) (xs : List Entry) → s.closed ≡ false → IsLog m (all_of editions) s xs → (session_after m s xs).closed ≡ true → ClosesOnce editions xs
+unfolding IsLog MayEnter after_entry session_after
+closes m editions s [] going log closed = absurd (cc)
+closes m editions s (told e ∷ xs) going (here, log) closed = not_yet editions _ xs (λ f other answer same. absurd (cc)) (closes m editions (after_entry m s (told e)) xs going log closed)
+closes m editions s (act e id action ∷ xs) going (here, log) closed = not_yet editions _ xs (λ f other answer same. absurd (cc)) (closes m editions (after_entry m s (act e id action)) xs going log closed)
+closes m editions s (observe o ∷ xs) going (here, log) closed = not_yet editions _ xs (λ f other answer same. absurd (cc)) (closes m editions (after_entry m s (observe o)) xs going log closed)
+closes m editions s (unseen o ∷ xs) going (here, log) closed = not_yet editions _ xs (λ f other answer same. absurd (cc)) (closes m editions (after_entry m s (unseen o)) xs going log closed)
+closes m editions s (closing e id action ∷ xs) going (here, log) closed =
+    ([], e, id, action, ap (λ (ys : List Entry). closing e id action ∷ ys) (nothing_after m (all_of editions) (after_entry m s (closing e id action)) xs refl log), here.2, All-nil (λ y. (f other answer : ℕ) → y ≢ closing f other answer))
+
+pub legal_logs_close_once : LegalLogsCloseOnce
+unfolding opening_session
+legal_logs_close_once m editions xs (log, closed) = closes m editions (opening_session m) xs refl log closed

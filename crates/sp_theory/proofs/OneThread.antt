@@ -2,9 +2,9 @@
 use Rattle.std.proofs.Common.{◌≡◌, ℕ, suc, ◌%◌, ◌<◌, List, [], ◌∷◌, ◌++◌, length, refl, sym, ap, ◌∙◌, subst, arith, Bool, true, false, cond, not, ◌||◌, inl, inr, eqb, length-append, zero, Option, Some, None}
 use Rattle.std.specs.Prelude.{All, Contains}
 use Rattle.std.specs.List.{range_with_len}
-use Rattle.std.proofs.lemmas.Bool.{eqb-true}
+use Rattle.std.proofs.lemmas.Bool.{eqb-true, not-true}
 use Rattle.std.proofs.lemmas.Nat.{mod_below}
-use Rattle.std.proofs.lemmas.List.Elements.{All-filter}
+use Rattle.std.proofs.lemmas.List.Elements.{All-filter, filter_passes}
 use Rattle.std.proofs.Math.Seq.{get_or-append_seam}
 use Rattle.sp_theory.specs.Sums.{holds_below}
 use Rattle.sp_theory.specs.Model.{IsLawful}
@@ -36,6 +36,9 @@ module _ (t : Task) where
       has_some : (xs : List ℕ) (x : ℕ) → Contains xs x → 0 < length xs
       has_some xs x (i, less, is) = omega arith
 
+  unmarked_free : (marks : Marks) → All (λ k. marks k ≡ false) (unmarked t marks)
+  unmarked_free marks i d less = not-true _ (filter_passes (λ k. not (marks k)) (range_with_len 0 t.beliefs) i d less)
+
   module _ (b : Book) (taken : Marks) where
     open_below : All (λ k. k < t.beliefs) (open_beliefs t b taken)
     unfolding open_beliefs
@@ -57,6 +60,22 @@ module _ (t : Task) where
     unfolding picked
     picked_below e word = open_below (word % length (open_beliefs t b taken)) 0 (mod_below word (length (open_beliefs t b taken)) (some_open e))
 
+    open_down : All (λ k. b.improved k ≡ false) (open_beliefs t b taken)
+    unfolding open_beliefs
+    open_down = by_test (eqb (length (unmarked t (λ k. b.improved k || taken k))) 0)
+      where
+        left_false : (r s : Bool) → (r || s) ≡ false → r ≡ false
+        left_false true s e = absurd (cc)
+        left_false false s e = refl
+
+        by_test : (c : Bool) → All (λ k. b.improved k ≡ false) (cond c (unmarked t b.improved) (unmarked t (λ k. b.improved k || taken k)))
+        by_test true = unmarked_free b.improved
+        by_test false = λ i d less. left_false _ _ (unmarked_free (λ k. b.improved k || taken k) i d less)
+
+    pub picked_down : all_improved t b ≡ false → (word : ℕ) → b.improved (picked t b taken word) ≡ false
+    unfolding picked
+    picked_down e word = open_down (word % length (open_beliefs t b taken)) 0 (mod_below word (length (open_beliefs t b taken)) (some_open e))
+
 -- ---- events that go on
 goes_append : (t : Task) (b : Book) (es fs : List Event) → GoesOn t b es → GoesOn t (replay t b es) fs → GoesOn t b (es ++ fs)
 goes_append t b es fs (history, prompt, ready) (history', prompt', ready') = (IsHistory-append t b es fs history history', IsPrompt-append t b es fs prompt prompt', subst (IsBetweenTurns t) (sym (replay-append t b es fs)) ready')
@@ -66,7 +85,7 @@ goes_cons : (t : Task) (b : Book) (e : Event) (es : List Event) → Allowed t b 
 unfolding IsHistory IsPrompt replay all_improved
 goes_cons t b e es allowed down left (history, prompt, ready) = ((allowed, history), ((λ up. let all = holds_below_all t.beliefs b.improved up in absurd (cc)), (λ none. absurd (omega arith)), prompt), ready)
 
-kept_by_entered : (t : Task) (b : Book) (o : Option Member) → ((entered t b o).stages_left ≡ b.stages_left) × ((entered t b o).done ≡ b.done)
+pub kept_by_entered : (t : Task) (b : Book) (o : Option Member) → ((entered t b o).stages_left ≡ b.stages_left) × ((entered t b o).done ≡ b.done)
 unfolding entered
 kept_by_entered t b None = (refl, refl)
 kept_by_entered t b (Some x) = (refl, refl)

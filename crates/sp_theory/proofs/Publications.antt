@@ -26,7 +26,7 @@ unfolding Allowed all_improved
 not_yet t b down (going, up) = let all = holds_below_all t.beliefs b.improved up in absurd (cc)
 
 -- after a publication all flags are down
-after_publication : (t : Task) (b : Book) → 0 < t.beliefs → all_improved t (after_event t b publish) ≡ false
+pub after_publication : (t : Task) (b : Book) → 0 < t.beliefs → all_improved t (after_event t b publish) ≡ false
 unfolding all_improved after_event
 after_publication t b some = by_test (holds_below t.beliefs (λ k. false)) refl
   where

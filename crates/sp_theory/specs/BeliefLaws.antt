@@ -1,14 +1,14 @@
 -- The laws of belief updates and samples, as the functions of this crate state them.
 use Rattle.std.proofs.Common.{◌≡◌, ℕ, ◌+◌, ◌*◌, ◌^◌, ◌<◌, ◌≤◌, List, length, Some, None}
-use Rattle.std.specs.Prelude.{pos, IsSome, ◌≤ℤ◌}
+use Rattle.std.specs.Prelude.{pos, All, IsSome, ◌≤ℤ◌}
 use Rattle.sp_theory.specs.Sums.{times}
 use Rattle.sp_theory.specs.Points.{IsPoint, count_of, point_of, sum_over}
 use Rattle.sp_theory.specs.Draws.{q}
-use Rattle.sp_theory.specs.Model.{Model, State, IsLawful, HasInitial}
+use Rattle.sp_theory.specs.Model.{Model, State, all_own, IsLawful, HasInitial}
 use Rattle.sp_theory.specs.Values.{Weights}
 use Rattle.sp_theory.specs.Scaling.{total_weight, scaled, IsScaled}
 use Rattle.sp_theory.specs.Beliefs.{initial_weights, unscaled_next, next_weights, exact_next}
-use Rattle.sp_theory.specs.Samples.{Sample, whole_total, drawn_observation, sample_after}
+use Rattle.sp_theory.specs.Samples.{Chooser, Sample, AreSamplesOf, whole_total, drawn_observation, sample_after, samples}
 
 -- ---- counts
 -- the variables: an update divides by q for each
@@ -27,10 +27,14 @@ observations m = count_of m.sight_sizes
 abbrev pub KeepsWeight : Model → Type 0
 KeepsWeight m = length m.sizes * (states m * states m) + length m.sight_sizes * (states m * observations m) < 2 ^ 61
 
--- models of at most 24 state variables with 2^24 states, 8 observation variables with 4096 joint observations, and 24 factors keep weight
+-- the floors of the initial belief take less than 2^62 together, so not all of 2^62. Only a factor with own variables takes any
+abbrev pub KeepsInitial : Model → Type 0
+KeepsInitial m = length (all_own m.factors) * states m < 2 ^ 62
+
+-- models of at most 24 state variables with 2^24 states and 8 observation variables with 4096 joint observations keep weight, from their initial belief on
 abbrev pub LimitsKeepWeight : Type 0
 LimitsKeepWeight = (m : Model) → length m.sizes ≤ 24 → states m ≤ 2 ^ 24 → length m.sight_sizes ≤ 8 → observations m ≤ 4096
-    → KeepsWeight m × (length m.factors ≤ 24 → length m.factors * states m < 2 ^ 62)
+    → KeepsWeight m × (HasInitial m → KeepsInitial m)
 
 -- ---- scale
 -- weights of a total above 0 and at most 2^62 are brought to scale
@@ -39,7 +43,7 @@ ScalingGivesScale = (m : Model) (w : Weights) → 0 < total_weight m w → total
 
 -- the initial weights are to scale, where the floors can't take all weight away
 abbrev pub InitialIsScaled : Type 0
-InitialIsScaled = (m : Model) → HasInitial m → 0 < states m → length m.factors * states m < 2 ^ 62 → IsScaled m (initial_weights m)
+InitialIsScaled = (m : Model) → HasInitial m → 0 < states m → KeepsInitial m → IsScaled m (initial_weights m)
 
 -- ---- updates
 -- the next weights before scaling are at most the exact ones, and below them at most one for each variable and state
@@ -96,3 +100,13 @@ pub record IsSampled (m : Model) (parent : Weights) (x : Sample) : Type 0 where
 abbrev pub SampleIsNext : Type 0
 SampleIsNext = (m : Model) → IsLawful m → KeepsWeight m → (w : Weights) → IsScaled m w → (a : ℕ) → a < m.actions → (word : ℕ)
     → IsSampled m w (sample_after m w a word)
+
+-- the answers of a chooser are actions: below their number, where there is one
+abbrev pub AnswersBelow : {S : Type 0} → Chooser S → Type 0
+AnswersBelow {S} chooser = (state : S) (depth actions word : ℕ) → 0 < actions → chooser.answer state depth actions word < actions
+
+-- the samples of a chooser with states of this type are samples of the model, to scale
+abbrev pub SamplesAreNext : Type 0 → Type 0
+SamplesAreNext S = (m : Model) → IsLawful m → HasInitial m → 0 < states m → KeepsInitial m → KeepsWeight m
+    → (chooser : Chooser S) → AnswersBelow chooser → (depth : ℕ) (words : List ℕ) (count : ℕ)
+    → AreSamplesOf m depth (samples m chooser depth words count) × All (λ x. IsScaled m x.weights) (samples m chooser depth words count)

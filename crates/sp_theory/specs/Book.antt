@@ -24,7 +24,7 @@ pub record Book : Type 0 where
   pub latest : Edition
   -- the grown list, which becomes the next edition
   pub grown : Edition
-  -- the flags of the sampled beliefs: whether the grown list is there at least as good as the latest edition
+  -- the flags of the sampled beliefs: whether something has entered the grown list that is there at least as good as the latest edition
   pub improved : ℕ → Bool
   pub stages_left : ℕ
   pub done : Bool
@@ -99,10 +99,14 @@ CanPrune m records edition [] = Unit {0}
 CanPrune m records edition ((x, y) ∷ pairs) = (x ≢ y) × IsPresent edition x × IsPresent edition y × IsUnder m records x y × CanPrune m records (without edition x) pairs
 
 -- ---- events
+-- the flags of all sampled beliefs are up
+abbrev pub AllImproved : Task → Book → Type 0
+AllImproved t b = (k : ℕ) → k < t.beliefs → b.improved k ≡ true
+
 -- whether the event may come next
 unfoldable pub Allowed : Task → Book → Event → Type 0
 Allowed t b (settle k e a links) = (b.done ≡ false) × (k < t.beliefs) × (e < length (editions b)) × IsBackup t.model (get_or (editions b) e b.latest) (t.samples k) a links
-Allowed t b publish = (b.done ≡ false) × ((k : ℕ) → k < t.beliefs → b.improved k ≡ true)
+Allowed t b publish = (b.done ≡ false) × AllImproved t b
 Allowed t b (prune pairs) = (b.done ≡ false) × (0 < length pairs) × CanPrune t.model b.records b.latest pairs
 Allowed t b end = (b.done ≡ false) × (b.stages_left ≡ 0)
 

@@ -6,8 +6,7 @@ use Rattle.sp_theory.specs.Values.{Weights, Member, Edition, greatest_member, va
 use Rattle.sp_theory.specs.Backup.{IsBackup}
 use Rattle.sp_theory.specs.Book.{Task, Book, Event, Allowed, after_event}
 use Rattle.sp_theory.specs.OneThread.{dominated}
-use Rattle.sp_theory.specs.Agreement.{VectorsAgree, WeightsAgree, MembersAgree, EditionsAgree}
-use Rattle.sp_theory.specs.SessionLaws.{AllAgree}
+use Rattle.sp_theory.specs.Agreement.{VectorsAgree, WeightsAgree, MembersAgree, EditionsAgree, AllAgree}
 
 -- the same action and links, and vectors that agree
 abbrev pub RecordAgrees : Model → Record → Record → Type 0

@@ -1,13 +1,13 @@
 -- The laws, as the functions of this crate state them.
 use Rattle.std.proofs.Common.{◌≡◌, ◌≢◌, ℕ, ◌+◌, ◌*◌, ◌-◌, ◌^◌, ◌<◌, ◌≤◌, ◌++◌, List, [], ◌∷◌, length, get_or, Bool, false, true}
-use Rattle.std.specs.Prelude.{ℤ, pos, neg_ℤ, ◌+ℤ◌, ◌≤ℤ◌, ◌<ℤ◌, All, AllPairs}
+use Rattle.std.specs.Prelude.{ℤ, pos, neg_ℤ, ◌+ℤ◌, ◌≤ℤ◌, ◌<ℤ◌, All, AllPairs, Contains}
 use Rattle.sp_theory.specs.Sums.{times, sum_below}
 use Rattle.sp_theory.specs.Points.{IsPoint, count_of}
 use Rattle.sp_theory.specs.Draws.{q, Draws, IsWhole, mean, weigh_out, weighed}
 use Rattle.sp_theory.specs.Model.{Model, State, Vector, IsLawful, least_reward, greatest_reward, AreRewards, IsReached, least_return, top, depth}
 use Rattle.sp_theory.specs.Step.{Links, step, exact_step}
 use Rattle.sp_theory.specs.Plan.{Record, record_at, return_of, IsPlan, HasValues}
-use Rattle.sp_theory.specs.Values.{Weights, Member, Edition, dot, total, value}
+use Rattle.sp_theory.specs.Values.{Weights, Member, Edition, greatest, dot, total, value, Reaches}
 use Rattle.sp_theory.specs.Backup.{estimate, exact_estimate, candidate, choice, exact_backup, tick_bound}
 use Rattle.sp_theory.specs.Book.{Task, Book, Event, settle, publish, prune, end, opening, editions, settled_record, IsMember, pruned, CanPrune, Allowed, after_event}
 use Rattle.sp_theory.specs.Runs.{IsHistory, replay, IsLegal, IsPrompt, publications}
@@ -108,6 +108,13 @@ AllClose t b (e ∷ es) = IsClose t b e × AllClose t (after_event t b e) es
 abbrev pub RecordedBackupsAreClose : Type 0
 RecordedBackupsAreClose = (t : Task) → IsLawful t.model → 0 < t.beliefs → (es : List Event) → IsHistory t (opening t) es → AllClose t (opening t) es
 
+-- ---- the greatest of a list
+-- of elements of this type, not none: the greatest is one of them, no score is above its own, and none of an equal score has a lesser number
+abbrev pub GreatestIsLeast : Type 0 → Type 0
+GreatestIsLeast X = (none : X) (score : X → ℤ) (id : X → ℕ) (xs : List X) → 0 < length xs
+    → let best = greatest none score id xs in
+    Contains xs best × All (λ x. score x ≤ℤ score best) xs × All (λ x. score x ≡ score best → id best ≤ id x) xs
+
 -- ---- plans
 -- a plan is worth at least the least return, from each record, at each height and state
 abbrev pub ReturnsAreFromLeast : Type 0
@@ -152,14 +159,16 @@ pub record IsGood (t : Task) (b : Book) : Type 0 where
   pub returned : All (All (λ x. (s : State) → IsPoint t.model.sizes s → times (q ^ (depth t.model * x.id)) (x.vector s) ≤ℤ return_of t.model b.records x.id x.id s)) (editions b)
   -- no value at a sampled belief falls from an edition to a later one
   pub never_falls : AllPairs (Rises t) (editions b)
-  -- where a flag is up, the grown list is at least as good as the latest edition
-  pub improves : (k : ℕ) → k < t.beliefs → b.improved k ≡ true → value t.model b.latest (t.samples k) ≤ℤ value t.model b.grown (t.samples k)
+  -- where a flag is up, some grown member is there at least as good as the latest edition
+  pub improves : (k : ℕ) → k < t.beliefs → b.improved k ≡ true → Reaches t.model b.grown (t.samples k) (value t.model b.latest (t.samples k))
+  -- each grown member has raised the flag of every belief at which it is at least as good as the latest edition
+  pub raisers : All (λ x. (k : ℕ) → k < t.beliefs → value t.model b.latest (t.samples k) ≤ℤ dot t.model (t.samples k) x.vector → b.improved k ≡ true) b.grown
   -- no edition is empty, and no record is twice in an edition or in the grown list
   pub filled : All (λ (edition : Edition). 0 < length edition) (editions b)
   pub apart : All (AllPairs Apart) (editions b)
   pub grown_apart : AllPairs Apart b.grown
 
--- the events of a legal run, and of each run up to then, make good plans
+-- of each book that the events of an allowed history lead to
 abbrev pub RunsAreGood : Type 0
 RunsAreGood = (t : Task) → IsLawful t.model → 0 < t.beliefs → (es : List Event) → IsHistory t (opening t) es → IsGood t (replay t (opening t) es)
 
@@ -171,14 +180,26 @@ EndsOnce es = (front : List Event) × (es ≡ front ++ end ∷ []) × All (λ e.
 abbrev pub LegalRunsEndOnce : Type 0
 LegalRunsEndOnce = (t : Task) (es : List Event) → IsLegal t es → EndsOnce es
 
--- a prompt legal run publishes as often as there are stages
+-- in a prompt run the publications so far and the stages that are left are all stages together; and where the run is done, the publications are
 abbrev pub StagesArePublished : Type 0
-StagesArePublished = (t : Task) (es : List Event) → IsLegal t es → IsPrompt t (opening t) es → publications es ≡ t.stages
+StagesArePublished = (t : Task) (es : List Event) → IsHistory t (opening t) es → IsPrompt t (opening t) es
+    → (publications es + (replay t (opening t) es).stages_left ≡ t.stages) × ((replay t (opening t) es).done ≡ true → publications es ≡ t.stages)
+
+-- in a prompt run with a stage to plan the end stands directly after a publication
+abbrev pub EndFollowsPublication : Type 0
+EndFollowsPublication = (t : Task) → 0 < t.stages → (es front : List Event) → IsHistory t (opening t) es → IsPrompt t (opening t) es → es ≡ front ++ end ∷ []
+    → (start : List Event) × (front ≡ start ++ publish ∷ [])
 
 -- in a prompt run each publication stands directly after a settle, at which the last flag was raised
 abbrev pub PublicationsFollowSettles : Type 0
 PublicationsFollowSettles = (t : Task) → 0 < t.beliefs → (es front back : List Event) → IsHistory t (opening t) es → IsPrompt t (opening t) es → es ≡ front ++ publish ∷ back
     → (start : List Event) × (k : ℕ) × (e : ℕ) × (a : ℕ) × (links : List ℕ) × (front ≡ start ++ settle k e a links ∷ []) × (all_improved t (replay t (opening t) start) ≡ false)
+
+-- a settle raises the flag of its belief, and lowers none
+abbrev pub SettleImproves : Type 0
+SettleImproves = (t : Task) (b : Book) (k e a : ℕ) (links : List ℕ)
+    → let next = after_event t b (settle k e a links) in
+    (next.improved k ≡ true) × ((j : ℕ) → b.improved j ≡ true → next.improved j ≡ true)
 
 -- events that are allowed and prompt after a book, and lead to one between turns
 abbrev pub GoesOn : Task → Book → List Event → Type 0
@@ -206,3 +227,14 @@ abbrev pub OneThreadIsPrompt : Type 0
 OneThreadIsPrompt = (t : Task) → IsLawful t.model → 0 < t.beliefs → 0 < t.stages → (pruning : Bool) (taken : Marks) (words : List ℕ)
     → let events = one_thread t pruning (opening t) taken words in
     IsHistory t (opening t) events × IsPrompt t (opening t) events
+
+-- one thread brings the run to its end within as many words as there are sampled beliefs times stages that are left
+abbrev pub OneThreadCompletes : Type 0
+OneThreadCompletes = (t : Task) → IsLawful t.model → 0 < t.beliefs → (es : List Event) → IsHistory t (opening t) es
+    → let b = replay t (opening t) es in
+    IsBetweenTurns t b → (pruning : Bool) (taken : Marks) (words : List ℕ) → t.beliefs * b.stages_left ≤ length words → IsLegal t (es ++ one_thread t pruning b taken words)
+
+-- from the opening within as many words as there are sampled beliefs times stages
+abbrev pub OneThreadEnds : Type 0
+OneThreadEnds = (t : Task) → IsLawful t.model → 0 < t.beliefs → 0 < t.stages → (pruning : Bool) (taken : Marks) (words : List ℕ) → t.beliefs * t.stages ≤ length words
+    → IsLegal t (one_thread t pruning (opening t) taken words)

@@ -11,11 +11,11 @@ pub mod Book
 pub mod Runs
 pub mod OneThread
 pub mod Laws
+pub mod Agreement
 pub mod Scaling
 pub mod Beliefs
 pub mod Samples
 pub mod BeliefLaws
-pub mod Agreement
 pub mod Logs
 pub mod SessionLaws
 pub mod BooksAgreement

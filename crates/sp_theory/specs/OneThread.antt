@@ -79,7 +79,7 @@ prune_of (pair ∷ pairs) = prune (pair ∷ pairs) ∷ []
 unfoldable pub pruning_events : Task → Book → List Event
 pruning_events t b = prune_of (applying b.latest (dominated t.model b.latest))
 
--- all flags are up
+-- the test of all flags
 unfoldable pub all_improved : Task → Book → Bool
 all_improved t b = holds_below t.beliefs b.improved
 

@@ -1,6 +1,6 @@
 -- Runs: events one after another, legal runs and prompt runs.
-use Rattle.std.proofs.Common.{◌≡◌, ℕ, suc, ◌<◌, List, [], ◌∷◌, true}
-use Rattle.sp_theory.specs.Book.{Task, Book, Event, settle, publish, prune, end, opening, Allowed, after_event}
+use Rattle.std.proofs.Common.{◌≡◌, ℕ, suc, List, [], ◌∷◌, true}
+use Rattle.sp_theory.specs.Book.{Task, Book, Event, settle, publish, prune, end, opening, AllImproved, Allowed, after_event}
 
 -- each event is allowed by the book before it
 unfoldable pub IsHistory : Task → Book → List Event → Type 0
@@ -16,11 +16,11 @@ replay t b (e ∷ es) = replay t (after_event t b e) es
 abbrev pub IsLegal : Task → List Event → Type 0
 IsLegal t es = IsHistory t (opening t) es × ((replay t (opening t) es).done ≡ true)
 
--- a prompt run: where all flags are up a publish comes at once, and where no stage is left the end
+-- prompt events, of those so far: where all flags are up the next event is a publish, and where no stage is left it is the end
 unfoldable pub IsPrompt : Task → Book → List Event → Type 0
 IsPrompt t b [] = Unit {0}
 IsPrompt t b (e ∷ es) =
-    (((k : ℕ) → k < t.beliefs → b.improved k ≡ true) → e ≡ publish)
+    (AllImproved t b → e ≡ publish)
     × (b.stages_left ≡ 0 → e ≡ end)
     × IsPrompt t (after_event t b e) es
 

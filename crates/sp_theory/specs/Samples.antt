@@ -1,10 +1,11 @@
 -- The sampled beliefs of a run: from the initial belief, by the actions of a chooser and by drawn observations.
-use Rattle.std.proofs.Common.{ℕ, zero, suc, ◌+◌, ◌*◌, ◌%◌, List, get_or, map, eqb, cond}
+use Rattle.std.proofs.Common.{◌≡◌, ℕ, zero, suc, ◌+◌, ◌*◌, ◌%◌, ◌<◌, List, length, get_or, map, Some, eqb, cond}
 use Rattle.std.specs.Prelude.{unwrap_or, nat_lt, sum_by}
 use Rattle.std.specs.List.{range_with_len, find}
 use Rattle.sp_theory.specs.Points.{count_of, point_of}
 use Rattle.sp_theory.specs.Model.{Model}
 use Rattle.sp_theory.specs.Values.{Weights}
+use Rattle.sp_theory.specs.Agreement.{WeightsAgree, NextAgree}
 use Rattle.sp_theory.specs.Scaling.{total_weight}
 use Rattle.sp_theory.specs.Beliefs.{initial_weights, unscaled_next, next_weights}
 
@@ -55,7 +56,7 @@ sample_after m w a word =
 abbrev pub parent_weights : Model → ℕ → ℕ → Weights → Weights
 parent_weights m depth k last = cond (eqb (k % depth) 0) (initial_weights m) last
 
--- belief k, with the state of the chooser after it. Two words are drawn for each belief above 0, the first for the action and the second for the observation
+-- belief k, with the state of the chooser after it. Two words are drawn for each belief above 0, the first for the action and the second for the observation; words past the list are read as 0
 unfoldable pub sampled : {S : Type 0} → Model → Chooser S → ℕ → List ℕ → ℕ → Sample × S
 sampled m chooser depth words zero = (first_sample m, chooser.opening)
 sampled m chooser depth words (suc k) =
@@ -69,3 +70,25 @@ sampled m chooser depth words (suc k) =
 -- the samples of a count
 abbrev pub samples : {S : Type 0} → Model → Chooser S → ℕ → List ℕ → ℕ → List Sample
 samples m chooser depth words count = map (λ k. (sampled m chooser depth words k).0) (range_with_len 0 count)
+
+-- ---- samples of a model
+-- sample k; past the list, belief 0
+abbrev pub sample_at : Model → List Sample → ℕ → Sample
+sample_at m xs k = get_or xs k (first_sample m)
+
+-- the sample is belief 0
+pub record IsFirst (m : Model) (x : Sample) : Type 0 where
+  pub action : x.action ≡ 0
+  pub observation : x.observation ≡ 0
+  pub weights : WeightsAgree m x.weights (initial_weights m)
+
+-- the sample is next after a parent's weights: its weights are the next ones after its action and its joint observation, which are the model's
+pub record IsNext (m : Model) (parent : Weights) (x : Sample) : Type 0 where
+  pub known : x.action < m.actions
+  pub seen : x.observation < count_of m.sight_sizes
+  pub next : NextAgree m (next_weights m parent x.action (point_of m.sight_sizes x.observation)) (Some x.weights)
+
+-- samples of a model at a depth: belief 0 comes first, and each later one is next after its parent
+pub record AreSamplesOf (m : Model) (depth : ℕ) (xs : List Sample) : Type 0 where
+  pub first : 0 < length xs → IsFirst m (sample_at m xs 0)
+  pub later : (k : ℕ) → suc k < length xs → IsNext m (parent_weights m depth k (sample_at m xs k).weights) (sample_at m xs (suc k))

@@ -1,19 +1,12 @@
 -- The laws of sessions' logs, as the functions of this crate state them, and sessions that agree at all states.
-use Rattle.std.proofs.Common.{◌≡◌, ℕ, ◌≤◌, List, [], ◌∷◌, Option, Some, None}
-use Rattle.std.specs.Prelude.{Contains, slice_get}
+use Rattle.std.proofs.Common.{◌≡◌, ◌≢◌, ℕ, suc, ◌≤◌, List, [], ◌∷◌, ◌++◌, length, Some}
+use Rattle.std.specs.Prelude.{All, Contains, slice_get}
 use Rattle.sp_theory.specs.Model.{Model}
-use Rattle.sp_theory.specs.Values.{Weights, Edition}
-use Rattle.sp_theory.specs.Agreement.{WeightsAgree, EditionsAgree}
+use Rattle.sp_theory.specs.Values.{Edition}
+use Rattle.sp_theory.specs.Agreement.{WeightsAgree, EditionsAgree, AllAgree}
 use Rattle.sp_theory.specs.Logs.{Entry, told, act, observe, unseen, closing, Session, Published, all_of, seen_by, IsLog, IsLegalLog}
 
 -- ---- agreement
--- no weights, or weights that agree
-abbrev pub NextAgree : Model → Option Weights → Option Weights → Type 0
-NextAgree m None None = Unit {0}
-NextAgree m (Some w) (Some x) = WeightsAgree m w x
-NextAgree m None (Some x) = ⊥
-NextAgree m (Some w) None = ⊥
-
 -- sessions that differ at most in the weights of what is no state
 pub record SessionsAgree (m : Model) (s t : Session) : Type 0 where
   pub weights : WeightsAgree m s.weights t.weights
@@ -39,13 +32,6 @@ AllTold published (closing e id action ∷ xs) = AllTold published xs
 -- each edition that was seen agrees with the run's of its number
 abbrev pub AreOf : Model → List Edition → List (ℕ × Edition) → Type 0
 AreOf m editions shelf = (e : ℕ) (edition : Edition) → Contains shelf (e, edition) → (other : Edition) × (slice_get editions e ≡ Some other) × EditionsAgree m edition other
-
--- editions that agree, one after another
-abbrev pub AllAgree : Model → List Edition → List Edition → Type 0
-AllAgree m [] [] = Unit {0}
-AllAgree m (x ∷ xs) (y ∷ ys) = EditionsAgree m x y × AllAgree m xs ys
-AllAgree m [] (y ∷ ys) = ⊥
-AllAgree m (x ∷ xs) [] = ⊥
 
 -- ---- laws
 -- a log is legal for a run's editions where it is legal for editions that agree with them
@@ -74,3 +60,13 @@ IsRising n (e ∷ es) = (n ≤ e) × IsRising e es
 -- a legal log never names an older edition than before
 abbrev pub LogsNeverGoBack : Type 0
 LogsNeverGoBack = (m : Model) (editions : List Edition) (xs : List Entry) → IsLegalLog m editions xs → IsRising 0 (named xs)
+
+-- the last entry is the closing answer, on the last edition, and there is no other
+abbrev pub ClosesOnce : List Edition → List Entry → Type 0
+ClosesOnce editions xs =
+    (front : List Entry) × (e : ℕ) × (id : ℕ) × (action : ℕ) × (xs ≡ front ++ closing e id action ∷ []) × (suc e ≡ length editions)
+    × All (λ x. (f other answer : ℕ) → x ≢ closing f other answer) front
+
+-- of each legal log
+abbrev pub LegalLogsCloseOnce : Type 0
+LegalLogsCloseOnce = (m : Model) (editions : List Edition) (xs : List Entry) → IsLegalLog m editions xs → ClosesOnce editions xs

@@ -1,7 +1,8 @@
 //! Laws of belief updates and of sampled beliefs. Weights are whole numbers with a total in (2^61, 2^62], probabilities are in
 //! ticks of 10^-9.
 
-ghost use Rattle.sp_theory.specs.BeliefLaws.{UpdateIsClose, RuledOutIsUnseen, UnseenIsSlight, SomethingIsSeen, ScalingGivesScale, UpdateGainsNothing, NextIsScaled, DrawnIsSeen, InitialIsScaled, SampleIsNext, LimitsKeepWeight};
+ghost use Rattle.std.specs.Prelude.{List, ℕ};
+ghost use Rattle.sp_theory.specs.BeliefLaws.{UpdateIsClose, RuledOutIsUnseen, UnseenIsSlight, SomethingIsSeen, ScalingGivesScale, UpdateGainsNothing, NextIsScaled, DrawnIsSeen, InitialIsScaled, SampleIsNext, SamplesAreNext, LimitsKeepWeight};
 
 /// The initial weights are to scale.
 pub fn initial_is_scaled()
@@ -53,7 +54,13 @@ pub fn sample_is_next()
     ensures { SampleIsNext }
 {}
 
-/// At most 24 state variables with 2^24 states, 8 observation variables with 4096 joint observations and 24 factors keep weight.
+/// All samples of a chooser are samples of the model, to scale. The chooser's states are lists of numbers here: they can hold all
+/// that it was asked so far.
+pub fn samples_are_next()
+    ensures { SamplesAreNext (List ℕ) }
+{}
+
+/// At most 24 state variables with 2^24 states and 8 observation variables with 4096 joint observations keep weight.
 pub fn limits_keep_weight()
     ensures { LimitsKeepWeight }
 {}

@@ -10,15 +10,19 @@
 mod beliefs;
 mod sessions;
 
+ghost use Rattle.std.specs.Prelude.{ℕ};
 ghost use Rattle.sp_theory.specs.BooksAgreement.{EditionsAreAlike, BooksGoOnAlike};
-ghost use Rattle.sp_theory.specs.Laws.{RangeIsExact, RangeIsBounded, LegalRunsEndOnce, WeighingIsClose, WeighingsAreClose, StepIsClose, StepIsInRange, EstimateIsClose, BackupIsClose, ReturnsAreFromLeast, VectorsAreReturned, PruningKeepsValues, RunsAreGood, RecordedBackupsAreClose, StagesArePublished, PublicationsFollowSettles, DominatedMayGo, SettleGoesOn, PruneGoesOn, OneThreadGoesOn, OneThreadIsPrompt};
+ghost use Rattle.sp_theory.specs.Laws.{RangeIsExact, RangeIsBounded, LegalRunsEndOnce, WeighingIsClose, WeighingsAreClose, StepIsClose, StepIsInRange, EstimateIsClose, BackupIsClose, ReturnsAreFromLeast, VectorsAreReturned, PruningKeepsValues, RunsAreGood, RecordedBackupsAreClose, StagesArePublished, PublicationsFollowSettles, DominatedMayGo, SettleGoesOn, PruneGoesOn, OneThreadGoesOn, OneThreadIsPrompt, GreatestIsLeast, SettleImproves, EndFollowsPublication, OneThreadCompletes, OneThreadEnds};
+ghost use Rattle.sp_theory.specs.Values.{Member};
 
 pub use beliefs::{
     drawn_is_seen, initial_is_scaled, limits_keep_weight, next_is_scaled, ruled_out_is_unseen,
-    sample_is_next, scaling_gives_scale, something_is_seen, unseen_is_slight, update_gains_nothing,
-    update_is_close,
+    sample_is_next, samples_are_next, scaling_gives_scale, something_is_seen, unseen_is_slight,
+    update_gains_nothing, update_is_close,
 };
-pub use sessions::{legal_logs_agree, logs_never_go_back, seen_logs_are_of_runs};
+pub use sessions::{
+    legal_logs_agree, legal_logs_close_once, logs_never_go_back, seen_logs_are_of_runs,
+};
 
 /// The least return and the top are the worth of the least and the greatest reward for ever, rounded outwards.
 pub fn range_is_exact()
@@ -60,6 +64,11 @@ pub fn backup_is_close()
     ensures { BackupIsClose }
 {}
 
+/// The greatest of some members, or of some actions, is one of them; none is above it, and of equal ones it has the least number.
+pub fn greatest_is_least()
+    ensures { GreatestIsLeast Member × GreatestIsLeast ℕ }
+{}
+
 /// No plan is worth less than the least return.
 pub fn returns_are_from_least()
     ensures { ReturnsAreFromLeast }
@@ -95,7 +104,7 @@ pub fn legal_runs_end_once()
     ensures { LegalRunsEndOnce }
 {}
 
-/// A prompt legal run has as many publications as stages.
+/// In a prompt run the publications so far and the stages that are left are all stages; at its end each is published.
 pub fn stages_are_published()
     ensures { StagesArePublished }
 {}
@@ -103,6 +112,16 @@ pub fn stages_are_published()
 /// In a prompt run each publication stands directly after the settle that raised the last flag.
 pub fn publications_follow_settles()
     ensures { PublicationsFollowSettles }
+{}
+
+/// In a prompt run the end stands directly after a publication.
+pub fn end_follows_publication()
+    ensures { EndFollowsPublication }
+{}
+
+/// A settle raises the flag of its belief, and lowers none.
+pub fn settle_improves()
+    ensures { SettleImproves }
 {}
 
 /// Between turns a settle goes on promptly with what is due after it.
@@ -123,6 +142,16 @@ pub fn one_thread_goes_on()
 /// The events of one thread from the opening are allowed and prompt, whatever the words that pick its beliefs.
 pub fn one_thread_is_prompt()
     ensures { OneThreadIsPrompt }
+{}
+
+/// One thread brings a run that is between turns to its end, within as many words as there are beliefs times stages left.
+pub fn one_thread_completes()
+    ensures { OneThreadCompletes }
+{}
+
+/// From the opening one thread makes a legal run, within as many words as there are beliefs times stages.
+pub fn one_thread_ends()
+    ensures { OneThreadEnds }
 {}
 
 /// Editions and weights that agree at all states have the same values, backups and dominated pairs.
