@@ -3,3 +3,16 @@ pub mod PointLemmas
 pub mod FuncLemmas
 pub mod IndependenceLemmas
 pub mod ScopeLemmas
+pub mod Chaining
+pub mod Settled
+pub mod NodeValues
+pub mod Listed
+pub mod Branching
+pub mod Reduced
+pub mod Dependence
+pub mod Attained
+pub mod Flattened
+pub mod Indexing
+pub mod Known
+pub mod Steps
+pub mod Diagramming

@@ -4,3 +4,12 @@ pub mod Func
 pub mod Operations
 pub mod Packed
 pub mod Unpacked
+pub mod NodeLists
+pub mod Ordered
+pub mod Walks
+pub mod Chained
+pub mod Flat
+pub mod Hashes
+pub mod Kept
+pub mod Sources
+pub mod Diagrams

@@ -5,14 +5,26 @@
 //! `specs/Func.antt` says what a function of points is, and `specs/Operations.antt` what each operation answers.
 #![tactic(auto)]
 
+mod chains;
+mod diagram;
+mod draft;
 mod laws;
 mod lists;
+mod memo;
+mod nodes;
+mod part;
 mod slots;
+mod walk;
 
+pub use diagram::{Diagram, reduced_law};
 pub use laws::{floor_law, least_law, monotone_law, most_law};
 pub use lists::{Ids, Pairs};
+pub use memo::{Choice, State};
+pub use nodes::Nodes;
+pub use part::Part;
 pub use slots::Scope;
 use std::alloc::AllocError;
+pub use walk::{Source, Step};
 
 /// One in ticks: probabilities and values are whole numbers of ticks of 10^-9.
 pub const TICKS: i128 = 1_000_000_000;

@@ -1,14 +1,12 @@
 -- Bytes of the grammar have no fault.
-use Rattle.std.proofs.Common.{◌≡◌, ℕ, List, [], ◌∷◌, ◌++◌, Option, Some, None, Result, Ok, Err, refl, sym, ap, ◌∙◌, append_assoc, length, inl, inr}
+use Rattle.std.proofs.Common.{◌≡◌, ℕ, List, [], ◌∷◌, ◌++◌, Option, Some, None, Result, Ok, Err, refl, sym, ◌∙◌, append_assoc, length, inl, inr}
 use Rattle.std.proofs.lemmas.List.{append-nil}
 use Rattle.sp_lex.specs.declared.lexeme.Token.{Token}
-use Rattle.sp_lex.specs.Tokens.{tokens_of}
 use Rattle.sp_syntax.specs.declared.text.Text.{Text}
 use Rattle.sp_syntax.specs.declared.class.Classed.{Classed}
-use Rattle.sp_syntax.specs.declared.error.SyntaxError.TheVariants as error
 use Rattle.sp_syntax.specs.Classes.{classes}
 use Rattle.sp_syntax.specs.Fault.{Fault}
-use Rattle.sp_syntax.specs.Grammar.{IsText, InGrammar, IsViable}
+use Rattle.sp_syntax.specs.Grammar.{IsText}
 use Rattle.sp_syntax.specs.Refusal as grammar
 use Rattle.sp_syntax.specs.Refusal.{room, room_then, leave, IsShallow, StopsAt}
 use Rattle.sp_tool.specs.Sources.{IsTreeOf, IsFaulty}

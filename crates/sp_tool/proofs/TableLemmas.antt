@@ -1,11 +1,10 @@
 -- The table: what one cause bars of the others.
-use Rattle.std.proofs.Common.{◌≡◌, ℕ, ◌+◌, ◌<◌, ◌≤◌, List, [], ◌∷◌, length, take, Option, Some, None, Result, refl, ap, sym, ◌∙◌, subst, Contains, arith, replicate, OnOk, OnErr, Ok, Err, inl, inr, ◌⊎◌}
-use Rattle.std.proofs.lemmas.List.{append-nil, length-replicate, take_all}
-use Rattle.std.proofs.Math.Nat.{le_refl}
+use Rattle.std.proofs.Common.{◌≡◌, ℕ, ◌+◌, ◌<◌, ◌≤◌, List, [], ◌∷◌, length, Option, Some, None, Result, refl, sym, ◌∙◌, Contains, arith, replicate, OnOk, OnErr, Ok, Err, inl, inr}
+use Rattle.std.proofs.lemmas.List.{append-nil, length-replicate}
 use Rattle.sp_outside.specs.Folder.{Folder}
 use Rattle.sp_outside.specs.Written.{Written}
-use Rattle.sp_outside.specs.Counts.{Rose, HasCause}
-use Rattle.sp_outside.specs.Bytes.{Appended, AppendedPart, IfTold}
+use Rattle.sp_outside.specs.Counts.{HasCause}
+use Rattle.sp_outside.specs.Bytes.{Appended, AppendedPart}
 use Rattle.sp_tool.specs.Jobs.{Job, plan, Asks, names}
 use Rattle.sp_tool.specs.Words.{Plan}
 use Rattle.sp_tool.specs.Table.{model_limit, Allows, Refuses, Declines, Told, Saw, Holds, Call, Cause, Tells, NoFault, Answers}

@@ -1,5 +1,5 @@
 -- The text of a run, when its last event is written.
-use Rattle.std.proofs.Common.{◌≡◌, ℕ, ◌≤◌, List, [], ◌∷◌, ◌++◌, length, drop, map, ap, sym, ◌∙◌, codes}
+use Rattle.std.proofs.Common.{◌≡◌, ℕ, ◌≤◌, List, ◌∷◌, ◌++◌, length, drop, map, ap, sym, ◌∙◌, codes}
 use Rattle.std.proofs.lemmas.List.{append-nil, drop_all, length-map}
 use Rattle.std.specs.Fmt.{decimal}
 use Rattle.sp_tool.specs.PlanText.{event_lines, run_text}

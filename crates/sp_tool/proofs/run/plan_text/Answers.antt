@@ -1,4 +1,4 @@
-use Rattle.std.proofs.Common.{rules, arith, ◌≡◌, ◌≤◌, [], ◌∷◌, length, ap, ◌∙◌, inl, inr}
+use Rattle.std.proofs.Common.{rules, arith, ◌≡◌, ◌≤◌, [], ◌∷◌, length, ap, ◌∙◌, inl}
 use Rattle.sp_tool.specs.Pieces.{plan_of}
 use Rattle.sp_tool.specs.Lines.{too_long_line}
 use Rattle.sp_tool.specs.Table.{model_limit}

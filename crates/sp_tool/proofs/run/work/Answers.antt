@@ -1,4 +1,4 @@
-use Rattle.std.proofs.Common.{◌++◌, map, string_bytes, ap, ◌∙◌, refl, Some, take}
+use Rattle.std.proofs.Common.{◌++◌, map, string_bytes, ap, ◌∙◌, refl, Some}
 use Rattle.sp_tool.specs.Jobs.{plan}
 use Rattle.sp_tool.specs.Pieces.{plan_of}
 use Rattle.sp_tool.proofs.TableLemmas.{hindered}

@@ -1,0 +1,166 @@
+//! A function of points as a reduced ordered decision diagram.
+ghost use Rattle.std.specs.Prelude.{◌≡◌, ◌≢◌, ℕ, ◌<◌, ◌↔◌, IsTrue, length, slice_index, IfOk};
+ghost use Rattle.std.specs.Bool.{OnTrue, OnFalse};
+ghost use Rattle.sp_dd.specs.Func.{IsScope, IsFunc, IsPointOf, DependsOn, IsIndependentOf, value_of, function_of};
+ghost use Rattle.sp_dd.specs.Ordered.{at, node_at, IsOrdered, IsBefore};
+ghost use Rattle.sp_dd.specs.Diagrams.{node_list, root_part, IsReduced, HasSlot};
+
+use crate::NoMemory;
+use crate::draft::Draft;
+use crate::memo::{Memo, State};
+use crate::nodes::Nodes;
+use crate::part::Part;
+use crate::slots::Scope;
+use crate::walk::{Source, walk};
+use std::alloc::Global;
+use std::marker::Model;
+
+/// A function of the points of a scope as a reduced ordered decision diagram (Bryant 1986) with multi-valued branches and
+/// whole numbers as leaves. Its nodes stand in the order in which a walk from the root leaves them, which goes into the parts
+/// in order, depth first; a constant function has a leaf for its root and no nodes. So a function has one diagram.
+#[derive(Drop)]
+pub struct Diagram {
+    scope: Scope,
+    nodes: Nodes,
+    root: Part,
+}
+
+impl Model for Diagram {
+    ghost use Rattle.sp_dd.specs.Func.{Func};
+    ghost use Rattle.sp_dd.specs.Diagrams.{function_at, IsDiagram};
+
+    ghost Value = { Func };
+
+    ghost view = { λ d. function_at d.scope d.nodes d.root };
+
+    ghost invariant = { λ d. IsDiagram d.scope d.nodes d.root };
+}
+
+impl Diagram {
+    /// The diagram of the function that a state of a source means.
+    pub fn from_source<S: Source>(
+        alloc: Global,
+        scope: &Scope,
+        source: &S,
+        state: State,
+    ) -> Result<Diagram, NoMemory>
+        requires state { S.IsState source.now state }
+        requires sizes { S.sizes source.now ≡ scope.now.sizes }
+        ensures { IfOk result (λ h. h ≡ function_of scope.now (λ p. S.meaning source.now state (at p))) }
+    {
+        let _ = scope.slots();
+        let mut memo = Memo::new(alloc)?;
+        let mut draft = Draft::new(alloc)?;
+        let mut stack = Vec::new(alloc);
+        let root = walk(scope, source, &mut memo, &mut draft, &mut stack, state)?;
+        Ok(Diagram {
+            scope: *scope,
+            nodes: draft.finish(),
+            root,
+        })
+    }
+
+    /// The scope of the function's points.
+    pub fn scope(&self) -> &Scope
+        ensures value { result.now ≡ self.now.shape }
+        ensures known { IsScope self.now.shape }
+        ensures determined { IsFunc self.now }
+    {
+        &self.scope
+    }
+
+    /// The nodes, each after its parts.
+    pub fn nodes(&self) -> &Nodes
+        ensures { result.now ≡ node_list self.now }
+    {
+        &self.nodes
+    }
+
+    /// The root: a leaf, or the place of a node.
+    pub fn root(&self) -> Part
+        ensures { result ≡ root_part self.now }
+    {
+        self.root
+    }
+
+    /// The same function once more.
+    pub fn copied(&self, alloc: Global) -> Result<Diagram, NoMemory>
+        ensures { IfOk result (λ h. h ≡ self.now) }
+    {
+        let nodes = self.nodes.copied(alloc)?;
+        Ok(Diagram {
+            scope: self.scope,
+            nodes,
+            root: self.root,
+        })
+    }
+
+    /// The value at a point: one coordinate for each slot. Takes no memory.
+    pub fn value_at(&self, point: &[u64]) -> i128
+        requires { IsPointOf self.now point.now }
+        ensures { result ≡ value_of self.now point.now }
+    {
+        let mut part = self.root;
+        while let Part::At(i) = part {
+            part = self.nodes.part(i, coordinate(point, self.nodes.slot(i)));
+        }
+        match part {
+            Part::Leaf(value) => value,
+            Part::At(_) => unreachable!(),
+        }
+    }
+
+    /// Whether two functions are the same. Compares roots and lists of nodes, and takes no memory.
+    pub fn same(&self, other: &Diagram) -> bool
+        requires { self.now.shape ≡ other.now.shape }
+        ensures function { IsTrue result ↔ self.now ≡ other.now }
+        ensures lists { IsTrue result ↔ ((node_list self.now ≡ node_list other.now) × (root_part self.now ≡ root_part other.now)) }
+    {
+        same_lists(self.root, &self.nodes, other.root, &other.nodes)
+    }
+
+    /// Whether the function differs at two points that differ in that slot alone. Takes no memory.
+    pub fn depends(&self, slot: u64) -> bool
+        requires { slot < length self.now.shape.sizes }
+        ensures yes { OnTrue result (DependsOn self.now slot) }
+        ensures no { OnFalse result (IsIndependentOf self.now slot) }
+    {
+        has_slot(&self.nodes, slot)
+    }
+}
+
+/// A law of each diagram: its nodes are ordered and reduced, and each stands where a walk from the root leaves it.
+pub fn reduced_law(f: &Diagram)
+    ensures ordered { IsOrdered f.now.shape.sizes (node_list f.now) }
+    ensures root { IsBefore (length (node_list f.now)) (root_part f.now) }
+    ensures reduced { IsReduced (node_list f.now) }
+{
+    let _ = f.nodes();
+}
+
+/// Whether two roots and two lists of nodes are one.
+fn same_lists(root: Part, nodes: &Nodes, other_root: Part, other_nodes: &Nodes) -> bool
+    ensures { IsTrue result ↔ ((nodes.now ≡ other_nodes.now) × (root ≡ other_root)) }
+{
+    root.is_same(&other_root) && nodes.is_same(other_nodes)
+}
+
+fn coordinate(point: &[u64], slot: u64) -> u64
+    requires { slot < length point.now }
+    ensures { result ≡ slice_index point.now slot }
+{
+    point[slot as usize]
+}
+
+/// Whether a node has that slot.
+fn has_slot(nodes: &Nodes, slot: u64) -> bool
+    ensures yes { OnTrue result (HasSlot nodes.now slot) }
+    ensures no { OnFalse result ((k : ℕ) → k < length nodes.now → (node_at nodes.now k).slot ≢ slot) }
+{
+    for i in 0..nodes.len() {
+        if nodes.slot(i) == slot {
+            return true;
+        }
+    }
+    false
+}
