@@ -16,7 +16,7 @@ mod part;
 mod slots;
 mod walk;
 
-pub use diagram::{Diagram, reduced_law};
+pub use diagram::{Diagram, one_list_law, reduced_law};
 pub use laws::{floor_law, least_law, monotone_law, most_law};
 pub use lists::{Ids, Pairs};
 pub use memo::{Choice, State};

@@ -11,13 +11,13 @@ use lib.Signed.{≤ℤ_refl}
 use Rattle.sp_theory.specs.Sums.{times, floor, sum_below}
 use Rattle.sp_theory.specs.Points.{IsPoint, count_of, sum_over}
 use Rattle.sp_theory.specs.Draws.{q, Draws, after, IsWhole, chance, mean, weighed, thinned}
-use Rattle.sp_theory.specs.Model.{Vector, Model, IsLawful, least_return, depth}
-use Rattle.sp_theory.specs.Step.{Links, step, expected_reward, expected_links, exact_step}
+use Rattle.sp_theory.specs.Model.{Vector, Model, IsLawful, least_return, divisions}
+use Rattle.sp_theory.specs.Step.{LinkedVectors, step, expected_reward, expected_links, exact_step}
 use Rattle.sp_theory.specs.Values.{greatest, Weights, leaf_member, Edition, dot, total}
 use Rattle.sp_theory.specs.Backup.{estimate, link_at, candidate, choice, exact_estimate, exact_link, exact_worth, exact_backup, tick_bound}
 use Rattle.sp_theory.proofs.Whole.{times-add, add-times, times-times, times-one, times-zero, times_mono, floor_below, floor_above, ≤ℤ_trans, sum_below_same}
 use Rattle.sp_theory.proofs.Weighing.{q_pos, le_same, times-swap, sum_over_same, sum_over_mono, sum_over-add, sum_over-times, two_low, two_high}
-use Rattle.sp_theory.proofs.Steps.{q-depth, step_low, step_high}
+use Rattle.sp_theory.proofs.Steps.{q-divisions, step_low, step_high}
 use Rattle.sp_theory.proofs.Order.{by_order, add_left_mono, add_right_mono}
 use Rattle.sp_theory.proofs.Greatest.{greatest_case, greatest_among, greatest_high, dot_mono}
 
@@ -199,7 +199,7 @@ module _ (m : Model) (lawful : IsLawful m) (w : Weights) (a : ℕ) (known : a < 
           (≤ℤ_trans (le_same (raised-add (estimate m w a seen (link_at m edition w a seen).vector) (times draws weight)))
           (add_right_mono _ _ (raised (times draws weight)) (estimate_low (link_at m edition w a seen).vector))))
 
-  pub dot-exact_step : (links : Links) → dot m w (exact_step m a links) ≡ times (q ^ suc (length m.sight_sizes)) (dot m w (expected_reward m a)) +ℤ times m.discount (sum_over m.sight_sizes (λ seen. exact_estimate m w a seen (links seen)))
+  pub dot-exact_step : (links : LinkedVectors) → dot m w (exact_step m a links) ≡ times (q ^ suc (length m.sight_sizes)) (dot m w (expected_reward m a)) +ℤ times m.discount (sum_over m.sight_sizes (λ seen. exact_estimate m w a seen (links seen)))
   unfolding exact_step exact_estimate
   dot-exact_step links =
       dot-add m w (λ s. times (q ^ suc (length m.sight_sizes)) (expected_reward m a s)) (λ s. times m.discount (expected_links m a links s))
@@ -209,17 +209,17 @@ module _ (m : Model) (lawful : IsLawful m) (w : Weights) (a : ℕ) (known : a < 
       ∙ dot-sum_over m w m.sight_sizes (λ seen s. mean m.sizes (m.moves a s) (λ next. times (chance (m.sights a next) seen) (links seen next))))
 
   module _ (edition : Edition) (some : 0 < length edition) (ranged : All (λ x. (s : List ℕ) → IsPoint m.sizes s → least_return m ≤ℤ x.vector s) edition) where
-    abbrev links : Links
+    abbrev links : LinkedVectors
     links seen = (link_at m edition w a seen).vector
 
     linked : (seen next : List ℕ) → IsPoint m.sight_sizes seen → IsPoint m.sizes next → least_return m ≤ℤ links seen next
     unfolding link_at
     linked seen next o n = greatest_among (λ x. estimate m w a seen x.vector) (λ x. x.id) (λ z. (s : List ℕ) → IsPoint m.sizes s → least_return m ≤ℤ z.vector s) (leaf_member m) edition some ranged next n
 
-    pub worth_low : times (q ^ depth m) (dot m w (candidate m edition w a)) ≤ℤ exact_worth m edition w a
+    pub worth_low : times (q ^ divisions m) (dot m w (candidate m edition w a)) ≤ℤ exact_worth m edition w a
     unfolding candidate exact_worth
     worth_low =
-        ≤ℤ_trans (le_same (sym (dot-times m w (q ^ depth m) (step m a links))))
+        ≤ℤ_trans (le_same (sym (dot-times m w (q ^ divisions m) (step m a links))))
         (≤ℤ_trans (dot_mono m w _ (exact_step m a links) (λ s p. step_low m lawful a known s p links linked))
         (≤ℤ_trans (le_same (dot-exact_step links))
         (add_left_mono (times (q ^ suc (length m.sight_sizes)) (dot m w (expected_reward m a))) _ _ (times_mono m.discount _ _ (sum_over_mono m.sight_sizes _ _ (λ seen o. link_less seen o edition some))))))
@@ -235,9 +235,9 @@ module _ (m : Model) (lawful : IsLawful m) (w : Weights) (a : ℕ) (known : a < 
         from_zero : (n : ℕ) (z : ℤ) → pos 0 ≤ℤ z → pos 0 ≤ℤ times n z
         from_zero n z h = ≤ℤ_trans (le_same (sym (times-zero n))) (times_mono n (pos 0) z h)
 
-    loss-raised : times q loss ≡ times (q ^ depth m) (times (count_of m.sight_sizes) (times draws weight))
+    loss-raised : times q loss ≡ times (q ^ divisions m) (times (count_of m.sight_sizes) (times draws weight))
     unfolding loss
-    loss-raised = ap (times q) (sym (lifted (length m.sizes) (length m.sight_sizes) (count_of m.sight_sizes) (times draws weight))) ∙ sym (lifted (length m.sizes) (length m.sight_sizes) q (times (count_of m.sight_sizes) (times draws weight))) ∙ sym (q-depth (length m.sizes) (length m.sight_sizes) _)
+    loss-raised = ap (times q) (sym (lifted (length m.sizes) (length m.sight_sizes) (count_of m.sight_sizes) (times draws weight))) ∙ sym (lifted (length m.sizes) (length m.sight_sizes) q (times (count_of m.sight_sizes) (times draws weight))) ∙ sym (q-divisions (length m.sizes) (length m.sight_sizes) _)
 
     futures_close : sum_over m.sight_sizes (λ seen. exact_estimate m w a seen (exact_link m edition w a seen).vector) ≤ℤ (sum_over m.sight_sizes (λ seen. exact_estimate m w a seen (links seen)) +ℤ loss)
     unfolding loss
@@ -245,7 +245,7 @@ module _ (m : Model) (lawful : IsLawful m) (w : Weights) (a : ℕ) (known : a < 
         ≤ℤ_trans (sum_over_mono m.sight_sizes _ (λ seen. exact_estimate m w a seen (links seen) +ℤ raised (times draws weight)) (λ seen o. link_close seen o edition some))
         (le_same (sum_over-add m.sight_sizes (λ seen. exact_estimate m w a seen (links seen)) (λ seen. raised (times draws weight)) ∙ ap (λ (t : ℤ). sum_over m.sight_sizes (λ seen. exact_estimate m w a seen (links seen)) +ℤ t) (sum_over-constant m.sight_sizes (raised (times draws weight)))))
 
-    pub worth_high : exact_worth m edition w a ≤ℤ times (q ^ depth m) (dot m w (candidate m edition w a) +ℤ times (tick_bound m) weight)
+    pub worth_high : exact_worth m edition w a ≤ℤ times (q ^ divisions m) (dot m w (candidate m edition w a) +ℤ times (tick_bound m) weight)
     unfolding candidate exact_worth
     worth_high =
         let futures = times_mono m.discount _ _ futures_close in
@@ -253,21 +253,21 @@ module _ (m : Model) (lawful : IsLawful m) (w : Weights) (a : ℕ) (known : a < 
         let lost = factor_mono m.discount q loss (omega (arith, lawful.discounts)) loss_from_zero in
         let steps = dot_mono m w (exact_step m a links) _ (λ s p. step_high m lawful a known s p links) in
         let one = dot-exact_step links in
-        let two = dot-times m w (q ^ depth m) (λ s. step m a links s +ℤ pos (depth m)) ∙ ap (times (q ^ depth m)) (dot-add m w (step m a links) (λ s. pos (depth m)) ∙ ap (λ (t : ℤ). dot m w (step m a links) +ℤ t) (dot-constant m w (depth m))) in
-        let sum = times-add (q ^ depth m) (dot m w (step m a links) +ℤ times (depth m) weight) (times (count_of m.sight_sizes) (times draws weight)) in
-        let all = ap (times (q ^ depth m)) (together (dot m w (step m a links)) weight) in
+        let two = dot-times m w (q ^ divisions m) (λ s. step m a links s +ℤ pos (divisions m)) ∙ ap (times (q ^ divisions m)) (dot-add m w (step m a links) (λ s. pos (divisions m)) ∙ ap (λ (t : ℤ). dot m w (step m a links) +ℤ t) (dot-constant m w (divisions m))) in
+        let sum = times-add (q ^ divisions m) (dot m w (step m a links) +ℤ times (divisions m) weight) (times (count_of m.sight_sizes) (times draws weight)) in
+        let all = ap (times (q ^ divisions m)) (together (dot m w (step m a links)) weight) in
         omega (arith, futures, split, lost, steps, one, two, sum, all, loss-raised, ints)
       where
-        together : (x t : ℤ) → x +ℤ times (depth m) t +ℤ times (count_of m.sight_sizes) (times draws t) ≡ x +ℤ times (tick_bound m) t
+        together : (x t : ℤ) → x +ℤ times (divisions m) t +ℤ times (count_of m.sight_sizes) (times draws t) ≡ x +ℤ times (tick_bound m) t
         together x t =
-            ap (λ (y : ℤ). x +ℤ times (depth m) t +ℤ y) (sym (times-times (count_of m.sight_sizes) draws t))
-            ∙ regroup x (times (depth m) t) (times (count_of m.sight_sizes * draws) t)
-            ∙ ap (λ (y : ℤ). x +ℤ y) (sym (add-times (depth m) (count_of m.sight_sizes * draws) t) ∙ ap (λ (n : ℕ). times n t) counted)
+            ap (λ (y : ℤ). x +ℤ times (divisions m) t +ℤ y) (sym (times-times (count_of m.sight_sizes) draws t))
+            ∙ regroup x (times (divisions m) t) (times (count_of m.sight_sizes * draws) t)
+            ∙ ap (λ (y : ℤ). x +ℤ y) (sym (add-times (divisions m) (count_of m.sight_sizes * draws) t) ∙ ap (λ (n : ℕ). times n t) counted)
           where
             regroup : (a b c : ℤ) → a +ℤ b +ℤ c ≡ a +ℤ (b +ℤ c)
             regroup a b c = omega (arith, ints)
 
-            counted : depth m + count_of m.sight_sizes * draws ≡ tick_bound m
+            counted : divisions m + count_of m.sight_sizes * draws ≡ tick_bound m
             counted = omega arith
 
 -- ---- the law of the backup
@@ -278,7 +278,7 @@ pub range_below : (n : ℕ) → All (λ a. a < n) (range_with_len 0 n)
 range_below n k d less = omega (arith, get_or-range_with_len 0 n k d (omega (arith, length-range_with_len 0 n)), length-range_with_len 0 n)
 
 module _ (m : Model) (lawful : IsLawful m) (w : Weights) (edition : Edition) (some : 0 < length edition) (ranged : All (λ x. (s : List ℕ) → IsPoint m.sizes s → least_return m ≤ℤ x.vector s) edition) where
-  pub backup_low : times (q ^ depth m) (dot m w (candidate m edition w (choice m edition w))) ≤ℤ exact_backup m edition w
+  pub backup_low : times (q ^ divisions m) (dot m w (candidate m edition w (choice m edition w))) ≤ℤ exact_backup m edition w
   unfolding exact_backup choice
   backup_low = ≤ℤ_trans (worth_low m lawful w (choice m edition w) known edition some ranged)
       (in_range (λ a. exact_worth m edition w a ≤ℤ exact_backup m edition w) m.actions (choice m edition w) known (greatest_high (exact_worth m edition w) (λ a. a) 0 (range_with_len 0 m.actions)))
@@ -286,10 +286,10 @@ module _ (m : Model) (lawful : IsLawful m) (w : Weights) (edition : Edition) (so
       known : choice m edition w < m.actions
       known = greatest_case (λ a. dot m w (candidate m edition w a)) (λ a. a) (λ a. a < m.actions) 0 (range_with_len 0 m.actions) lawful.some_action (range_below m.actions)
 
-  pub backup_high : exact_backup m edition w ≤ℤ times (q ^ depth m) (dot m w (candidate m edition w (choice m edition w)) +ℤ times (tick_bound m) (total m w))
+  pub backup_high : exact_backup m edition w ≤ℤ times (q ^ divisions m) (dot m w (candidate m edition w (choice m edition w)) +ℤ times (tick_bound m) (total m w))
   unfolding exact_backup choice
   backup_high = ≤ℤ_trans (worth_high m lawful w best known edition some ranged)
-      (times_mono (q ^ depth m) _ _ (add_right_mono _ _ (times (tick_bound m) (total m w))
+      (times_mono (q ^ divisions m) _ _ (add_right_mono _ _ (times (tick_bound m) (total m w))
       (in_range (λ a. dot m w (candidate m edition w a) ≤ℤ dot m w (candidate m edition w (choice m edition w))) m.actions best known (greatest_high (λ a. dot m w (candidate m edition w a)) (λ a. a) 0 (range_with_len 0 m.actions)))))
     where
       best : ℕ

@@ -1,5 +1,5 @@
 -- What may come next after a book, and what it leads to, is the same after a book that agrees with it.
-use Rattle.std.proofs.Common.{◌≡◌, ℕ, zero, suc, ◌<◌, ◌-◌, List, [], ◌∷◌, ◌++◌, length, get_or, refl, sym, ap, ◌∙◌, subst, Bool, true, false, cond, not, ◌||◌, Option, Some, None, eqb}
+use Rattle.std.proofs.Common.{◌≡◌, ℕ, zero, suc, ◌<◌, ◌-◌, List, [], ◌∷◌, ◌++◌, length, get_or, refl, sym, ap, ◌∙◌, subst, arith, Bool, true, false, cond, not, ◌||◌, Option, Some, None, eqb}
 use Rattle.std.specs.Prelude.{◌≤ℤ◌, int_lt}
 use Rattle.std.proofs.lemmas.Bool.{eqb-true}
 use Rattle.std.proofs.lemmas.Bool.Decides.{Decides-eqb}
@@ -7,7 +7,8 @@ use Rattle.std.proofs.lemmas.List.Folds.{Any-from_list_any, list_any-from_Any}
 use Rattle.sp_theory.specs.Model.{Model}
 use Rattle.sp_theory.specs.Plan.{Record, record_at, link_of}
 use Rattle.sp_theory.specs.Values.{Member, Edition, dot, greatest_member, value}
-use Rattle.sp_theory.specs.Book.{Task, Book, Event, settle, publish, prune, end, editions, settled_record, settled_member, entering, entered, without, IsPresent, IsUnder, CanPrune, Allowed, after_event}
+use Rattle.sp_theory.specs.Book.{Task, Book, Event, settle, publish, prune, end, editions, settled_record, settled_member, entering, entered, without, IsPresent, AreUnder, CanPrune, Allowed, after_event}
+use Rattle.sp_theory.proofs.Pruning.{get_or_any}
 use Rattle.sp_theory.specs.Agreement.{WeightsAgree, MembersAgree, EditionsAgree, AllAgree}
 use Rattle.sp_theory.specs.BooksAgreement.{RecordAgrees, RecordsAgree, EntrantsAgree, BooksAgree}
 use Rattle.sp_theory.proofs.Steps.{step_same}
@@ -68,13 +69,40 @@ module _ (m : Model) where
       let (j, y, within, at, equal) = Any-from_list_any (λ z. eqb z.id id) ys (sym (list_any_same m id xs ys agree) ∙ there) in
       (j, y, within, at, eqb-true y.id id equal)
 
-  under_agrees : (rs ss : List Record) (x y : ℕ) → RecordsAgree m rs ss → IsUnder m rs x y → IsUnder m ss x y
-  under_agrees rs ss x y agree under s p = subst (λ z. z ≤ℤ (record_at m ss y).vector s) ((record_at-agrees rs ss x agree).2 s p) (subst (λ z. (record_at m rs x).vector s ≤ℤ z) ((record_at-agrees rs ss y agree).2 s p) (under s p))
+  members-length : (xs ys : Edition) → EditionsAgree m xs ys → length xs ≡ length ys
+  members-length [] [] agree = refl
+  members-length (x ∷ xs) (y ∷ ys) (first, rest) = ap suc (members-length xs ys rest)
+  members-length [] (y ∷ ys) agree = absurd agree
+  members-length (x ∷ xs) [] agree = absurd agree
 
-  can_prune_agrees : (rs ss : List Record) (xs ys : Edition) (pairs : List (ℕ × ℕ)) → RecordsAgree m rs ss → EditionsAgree m xs ys → CanPrune m rs xs pairs → CanPrune m ss ys pairs
-  can_prune_agrees rs ss xs ys [] records agree can = tt
-  can_prune_agrees rs ss xs ys ((x, y) ∷ pairs) records agree (differ, has_x, has_y, under, rest) =
-      (differ, present_agrees xs ys x agree has_x, present_agrees xs ys y agree has_y, under_agrees rs ss x y records under, can_prune_agrees rs ss (without xs x) (without ys x) pairs records (without_agrees m xs ys x agree) rest)
+  member_at-agrees : (xs ys : Edition) (k : ℕ) (d e : Member) → EditionsAgree m xs ys → k < length ys → MembersAgree m (get_or xs k d) (get_or ys k e)
+  member_at-agrees [] [] k d e agree less = absurd (omega (arith, less))
+  member_at-agrees (x ∷ xs) (y ∷ ys) zero d e (first, rest) less = first
+  member_at-agrees (x ∷ xs) (y ∷ ys) (suc k) d e (first, rest) less = member_at-agrees xs ys k d e rest (omega (arith, less))
+  member_at-agrees [] (y ∷ ys) k d e agree less = absurd agree
+  member_at-agrees (x ∷ xs) [] k d e agree less = absurd agree
+
+  under_agrees : (xs ys : Edition) (x y : ℕ) → EditionsAgree m xs ys → AreUnder m xs x y → AreUnder m ys x y
+  under_agrees xs ys x y agree under k e less id =
+      let same = members-length xs ys agree in
+      let here = member_at-agrees xs ys k e e agree less in
+      let (j, r, within, is, (its, low)) = under k e (omega (arith, less, same)) (here.0 ∙ id) in
+      let there_less : j < length ys = omega (arith, within, same) in
+      let there = member_at-agrees xs ys j r r agree there_less in (
+        j,
+        get_or ys j r,
+        there_less,
+        get_or_any ys j (get_or ys j r) r there_less,
+        (
+          sym there.0 ∙ ap (λ (z : Member). z.id) is ∙ its,
+          λ s p. subst (λ z. z ≤ℤ (get_or ys j r).vector s) (here.2 s p) (subst (λ z. (get_or xs k e).vector s ≤ℤ z) (ap (λ (z : Member). z.vector s) (sym is) ∙ there.2 s p) (low s p)),
+        ),
+      )
+
+  can_prune_agrees : (xs ys : Edition) (pairs : List (ℕ × ℕ)) → EditionsAgree m xs ys → CanPrune m xs pairs → CanPrune m ys pairs
+  can_prune_agrees xs ys [] agree can = tt
+  can_prune_agrees xs ys ((x, y) ∷ pairs) agree (differ, has_x, has_y, under, rest) =
+      (differ, present_agrees xs ys x agree has_x, present_agrees xs ys y agree has_y, under_agrees xs ys x y agree under, can_prune_agrees (without xs x) (without ys x) pairs (without_agrees m xs ys x agree) rest)
 
 -- ---- books
 module _ (t : Task) (b c : Book) (agree : BooksAgree t b c) where
@@ -93,7 +121,7 @@ module _ (t : Task) (b c : Book) (agree : BooksAgree t b c) where
     backup_same t.model (get_or (editions b) e b.latest) (get_or (editions c) e c.latest) (t.samples k) (t.samples k) (edition_at-agrees t.model (editions b) (editions c) e b.latest c.latest editions_agree agree.latest) (same_weights k) a links backup,
   )
   allowed_agrees publish (going, up) = (sym agree.done ∙ going, λ k less. sym (agree.improved k less) ∙ up k less)
-  allowed_agrees (prune pairs) (going, some, can) = (sym agree.done ∙ going, some, can_prune_agrees t.model b.records c.records b.latest c.latest pairs agree.records agree.latest can)
+  allowed_agrees (prune pairs) (going, some, can) = (sym agree.done ∙ going, some, can_prune_agrees t.model b.latest c.latest pairs agree.latest can)
   allowed_agrees end (going, none) = (sym agree.done ∙ going, sym agree.stages_left ∙ none)
 
   pub settled_agrees : (a : ℕ) (links : List ℕ) → RecordAgrees t.model (settled_record t b a links) (settled_record t c a links)

@@ -14,7 +14,7 @@ pub mod Records
 pub mod Pruning
 pub mod Sound
 pub mod Tidy
-pub mod GoodRuns
+pub mod SoundRuns
 pub mod RecordedBackups
 pub mod Histories
 pub mod Prompt

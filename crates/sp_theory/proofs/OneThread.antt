@@ -18,8 +18,8 @@ use Rattle.sp_theory.proofs.Extremes.{holds_below_at, holds_below_all, holds_bel
 use Rattle.sp_theory.proofs.Greatest.{Contains-filter}
 use Rattle.sp_theory.proofs.Backups.{in_range, range_below}
 use Rattle.sp_theory.proofs.Histories.{replay-append, IsHistory-append, IsPrompt-append}
-use Rattle.sp_theory.proofs.Sound.{IsSound, latest_members, sound_opening, sound_after, sound_replay}
-use Rattle.sp_theory.proofs.Dominated.{dominated_pairs, applying_can}
+use Rattle.sp_theory.proofs.Sound.{IsKept, latest_members, sound_opening, sound_after, sound_replay}
+use Rattle.sp_theory.proofs.Dominated.{tell_by_records, dominated_may_go}
 
 positive : (n : ℕ) → eqb n 0 ≡ false → 0 < n
 positive zero e = absurd (cc)
@@ -100,16 +100,16 @@ module _ (t : Task) (lawful : IsLawful t.model) (some : 0 < t.beliefs) (pruning 
       by_test true e = let up = holds_below_at t.beliefs b.improved e 0 some in let low = down 0 in absurd (cc)
       by_test false e = refl
 
-  pruning_goes : (b : Book) → IsSound t b → b.done ≡ false → 0 < b.stages_left → all_improved t b ≡ false → GoesOn t b (pruning_events t b)
+  pruning_goes : (b : Book) → IsKept t b → b.done ≡ false → 0 < b.stages_left → all_improved t b ≡ false → GoesOn t b (pruning_events t b)
   unfolding pruning_events IsHistory IsPrompt replay Allowed after_event all_improved
-  pruning_goes b sound going left down = by_pairs (applying b.latest (dominated t.model b.latest)) (applying_can t.model b.records b.latest (dominated t.model b.latest) (dominated_pairs t.model b.records b.latest (latest_members t b sound)))
+  pruning_goes b sound going left down = by_pairs (applying b.latest (dominated t.model b.latest)) (dominated_may_go t.model b.latest (tell_by_records t.model b.records b.latest (latest_members t b sound)))
     where
-      by_pairs : (pairs : List (ℕ × ℕ)) → CanPrune t.model b.records b.latest pairs → GoesOn t b (prune_of pairs)
+      by_pairs : (pairs : List (ℕ × ℕ)) → CanPrune t.model b.latest pairs → GoesOn t b (prune_of pairs)
       by_pairs [] can = (tt, tt, inr (going, left, down))
       by_pairs (pair ∷ pairs) can = goes_cons t b (prune (pair ∷ pairs)) [] (going, omega arith, can) down left (tt, tt, inr (going, left, down))
 
   -- what is due after a settle
-  due_goes : (b : Book) → IsSound t b → b.done ≡ false → 0 < b.stages_left → GoesOn t b (due_events t pruning b)
+  due_goes : (b : Book) → IsKept t b → b.done ≡ false → 0 < b.stages_left → GoesOn t b (due_events t pruning b)
   unfolding due_events all_improved IsHistory IsPrompt replay Allowed after_event
   due_goes b sound going left = by_flags (holds_below t.beliefs b.improved) refl
     where
@@ -139,18 +139,18 @@ module _ (t : Task) (lawful : IsLawful t.model) (some : 0 < t.beliefs) (pruning 
   settled_allowed b k going less = (going, less, omega (arith, length-append b.earlier (b.latest ∷ [])), subst (λ (edition : Edition). IsBackup t.model edition (t.samples k) (choice t.model b.latest (t.samples k)) (links_at t.model b.latest (t.samples k) (choice t.model b.latest (t.samples k)))) (sym (get_or-append_seam b.earlier b.latest [] b.latest)) (refl, refl))
 
   -- a settle that may come next, with what is due then
-  pub settle_goes : (b : Book) (k e a : ℕ) (links : List ℕ) → IsSound t b → b.done ≡ false → 0 < b.stages_left → all_improved t b ≡ false → Allowed t b (settle k e a links) → GoesOn t b (settle k e a links ∷ due_events t pruning (after_event t b (settle k e a links)))
+  pub settle_goes : (b : Book) (k e a : ℕ) (links : List ℕ) → IsKept t b → b.done ≡ false → 0 < b.stages_left → all_improved t b ≡ false → Allowed t b (settle k e a links) → GoesOn t b (settle k e a links ∷ due_events t pruning (after_event t b (settle k e a links)))
   unfolding after_event
   settle_goes b k e a links sound going left down allowed =
       let kept = kept_by_entered t (record b { records = b.records ++ settled_record t b a links ∷ [] }) (entering t b k (settled_member t b a links)) in
       goes_cons t b (settle k e a links) _ allowed down left
       (due_goes _ (sound_after t lawful b (settle k e a links) sound allowed) (kept.1 ∙ going) (subst (λ (n : ℕ). 0 < n) (sym kept.0) left))
 
-  turn_goes : (b : Book) (taken : Marks) (word : ℕ) → IsSound t b → b.done ≡ false → 0 < b.stages_left → all_improved t b ≡ false → GoesOn t b (turn t pruning b taken word)
+  turn_goes : (b : Book) (taken : Marks) (word : ℕ) → IsKept t b → b.done ≡ false → 0 < b.stages_left → all_improved t b ≡ false → GoesOn t b (turn t pruning b taken word)
   unfolding turn settled_at
   turn_goes b taken word sound going left down = settle_goes b _ _ _ _ sound going left down (settled_allowed b (picked t b taken word) going (picked_below t b taken down word))
 
-  pub one_thread_goes : (b : Book) (taken : Marks) (words : List ℕ) → IsSound t b → IsBetweenTurns t b → GoesOn t b (one_thread t pruning b taken words)
+  pub one_thread_goes : (b : Book) (taken : Marks) (words : List ℕ) → IsKept t b → IsBetweenTurns t b → GoesOn t b (one_thread t pruning b taken words)
   unfolding one_thread IsHistory IsPrompt replay
   one_thread_goes b taken [] sound ready = (tt, tt, ready)
   one_thread_goes b taken (word ∷ words) sound (inl done) = subst (λ (c : Bool). GoesOn t b (cond c [] (turn t pruning b taken word ++ one_thread t pruning (replay t b (turn t pruning b taken word)) (marks_after t b taken word) words))) (sym done) (tt, tt, inl done)

@@ -1,13 +1,13 @@
 -- Editions that agree have the same dominated pairs, of which the same apply.
 use Rattle.std.proofs.Common.{◌≡◌, ℕ, zero, suc, ◌<◌, List, [], ◌∷◌, ◌++◌, refl, subst, arith, Bool, true, false, cond, not, ◌&&◌, ◌||◌, eqb}
 use Rattle.std.specs.Prelude.{int_lt, nat_lt, filter}
-use Rattle.std.specs.List.{list_any}
+use Rattle.std.specs.List.{list_any, flat_map}
 use Rattle.sp_theory.specs.Sums.{holds_below}
 use Rattle.sp_theory.specs.Points.{IsPoint, holds_over}
 use Rattle.sp_theory.specs.Model.{Model}
 use Rattle.sp_theory.specs.Values.{Member, Edition}
 use Rattle.sp_theory.specs.Book.{without, pruned}
-use Rattle.sp_theory.specs.OneThread.{is_under, yields, least_id, pair_of, dominated_in, dominated, applying}
+use Rattle.sp_theory.specs.OneThread.{nowhere_above, yields, least_id, pair_of, dominated, applying}
 use Rattle.sp_theory.specs.Agreement.{MembersAgree, EditionsAgree}
 
 holds_below_same : (n : ℕ) (test test' : ℕ → Bool) → ((k : ℕ) → k < n → test k ≡ test' k) → holds_below n test ≡ holds_below n test'
@@ -21,8 +21,8 @@ holds_over_same [] test test' same = same [] tt
 holds_over_same (k ∷ ks) test test' same = holds_below_same k _ _ (λ x less. holds_over_same ks (λ xs. test (x ∷ xs)) (λ xs. test' (x ∷ xs)) (λ xs p. same (x ∷ xs) (less, p)))
 
 module _ (m : Model) where
-  pub is_under_same : (x y x' y' : Member) → MembersAgree m x x' → MembersAgree m y y' → is_under m x y ≡ is_under m x' y'
-  unfolding is_under
+  pub is_under_same : (x y x' y' : Member) → MembersAgree m x x' → MembersAgree m y y' → nowhere_above m x y ≡ nowhere_above m x' y'
+  unfolding nowhere_above
   is_under_same x y x' y' first second = holds_over_same m.sizes _ _ (λ s p. λ h. not (int_lt (second.2 s p h) (first.2 s p h)))
 
   yields_same : (x y x' y' : Member) → MembersAgree m x x' → MembersAgree m y y' → yields m x y ≡ yields m x' y'
@@ -54,8 +54,7 @@ module _ (m : Model) where
   pair_of_same x y [] (y' ∷ ys) first agree = absurd agree
   pair_of_same x y (x' ∷ xs) [] first agree = absurd agree
 
-  dominated_in_same : (edition other xs ys : Edition) → EditionsAgree m edition other → EditionsAgree m xs ys → dominated_in m edition xs ≡ dominated_in m other ys
-  unfolding dominated_in
+  dominated_in_same : (edition other xs ys : Edition) → EditionsAgree m edition other → EditionsAgree m xs ys → flat_map (λ x. pair_of x (filter (yields m x) edition)) xs ≡ flat_map (λ x. pair_of x (filter (yields m x) other)) ys
   dominated_in_same edition other [] [] whole agree = refl
   dominated_in_same edition other (x ∷ xs) (y ∷ ys) whole (first, rest) = λ h.
       pair_of_same x y _ _ first (filter_agrees (yields m x) (yields m y) (λ z z' same. yields_same x z y z' first same) edition other whole) h

@@ -4,7 +4,7 @@ use Rattle.std.specs.Prelude.{◌+ℤ◌, ◌≤ℤ◌, All}
 use Rattle.sp_theory.specs.Sums.{times}
 use Rattle.sp_theory.specs.Points.{IsPoint}
 use Rattle.sp_theory.specs.Draws.{q}
-use Rattle.sp_theory.specs.Model.{Vector, IsLawful, least_return, depth}
+use Rattle.sp_theory.specs.Model.{Vector, IsLawful, least_return, divisions}
 use Rattle.sp_theory.specs.Plan.{record_at, link_of}
 use Rattle.sp_theory.specs.Values.{leaf_member, Edition, dot, total}
 use Rattle.sp_theory.specs.Backup.{estimate, link_at, candidate, choice, IsBackup, tick_bound}
@@ -18,10 +18,10 @@ use Rattle.sp_theory.proofs.Returns.{from_least}
 use Rattle.sp_theory.proofs.Greatest.{greatest_case}
 use Rattle.sp_theory.proofs.Backups.{backup_low, backup_high}
 use Rattle.sp_theory.proofs.Links.{links_at-point}
-use Rattle.sp_theory.proofs.Sound.{IsSound, leaf_is_member, sound_after}
+use Rattle.sp_theory.proofs.Sound.{IsKept, leaf_is_member, sound_after}
 use Rattle.sp_theory.proofs.Tidy.{IsTidy, tidy_after}
 
-module _ (t : Task) (lawful : IsLawful t.model) (b : Book) (sound : IsSound t b) (tidy : IsTidy t b) (k e a : ℕ) (links : List ℕ) (exists : e < length (editions b)) where
+module _ (t : Task) (lawful : IsLawful t.model) (b : Book) (sound : IsKept t b) (tidy : IsTidy t b) (k e a : ℕ) (links : List ℕ) (exists : e < length (editions b)) where
   abbrev base : Edition
   base = get_or (editions b) e b.latest
 
@@ -41,18 +41,18 @@ module _ (t : Task) (lawful : IsLawful t.model) (b : Book) (sound : IsSound t b)
     pub close : IsClose t b (settle k e a links)
     unfolding IsClose
     close = (
-      ≤ℤ_trans (le_same (ap (λ (v : Vector). times (q ^ depth t.model) (dot t.model (t.samples k) v)) settled_is)) (backup_low t.model lawful (t.samples k) base (tidy.filled e b.latest exists) ranged),
-      ≤ℤ_trans (backup_high t.model lawful (t.samples k) base (tidy.filled e b.latest exists) ranged) (le_same (ap (λ (v : Vector). times (q ^ depth t.model) (dot t.model (t.samples k) v +ℤ times (tick_bound t.model) (total t.model (t.samples k)))) (sym settled_is))),
+      ≤ℤ_trans (le_same (ap (λ (v : Vector). times (q ^ divisions t.model) (dot t.model (t.samples k) v)) settled_is)) (backup_low t.model lawful (t.samples k) base (tidy.filled e b.latest exists) ranged),
+      ≤ℤ_trans (backup_high t.model lawful (t.samples k) base (tidy.filled e b.latest exists) ranged) (le_same (ap (λ (v : Vector). times (q ^ divisions t.model) (dot t.model (t.samples k) v +ℤ times (tick_bound t.model) (total t.model (t.samples k)))) (sym settled_is))),
     )
 
-pub close_event : (t : Task) (lawful : IsLawful t.model) (b : Book) (e : Event) → IsSound t b → IsTidy t b → Allowed t b e → IsClose t b e
+pub close_event : (t : Task) (lawful : IsLawful t.model) (b : Book) (e : Event) → IsKept t b → IsTidy t b → Allowed t b e → IsClose t b e
 unfolding Allowed IsClose
 close_event t lawful b (settle k e a links) sound tidy (going, within, exists, backup) = close t lawful b sound tidy k e a links exists backup
 close_event t lawful b publish sound tidy allowed = tt
 close_event t lawful b (prune pairs) sound tidy allowed = tt
 close_event t lawful b end sound tidy allowed = tt
 
-pub all_close : (t : Task) (lawful : IsLawful t.model) → 0 < t.beliefs → (b : Book) (es : List Event) → IsSound t b → IsTidy t b → IsHistory t b es → AllClose t b es
+pub all_close : (t : Task) (lawful : IsLawful t.model) → 0 < t.beliefs → (b : Book) (es : List Event) → IsKept t b → IsTidy t b → IsHistory t b es → AllClose t b es
 unfolding IsHistory AllClose
 all_close t lawful some b [] sound tidy history = tt
 all_close t lawful some b (e ∷ es) sound tidy (allowed, rest) = (close_event t lawful b e sound tidy allowed, all_close t lawful some (after_event t b e) es (sound_after t lawful b e sound allowed) (tidy_after t lawful b e some sound tidy allowed) rest)

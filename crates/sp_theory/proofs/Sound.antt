@@ -25,7 +25,7 @@ use Rattle.sp_theory.proofs.Links.{length-links_at, links_at-point}
 use Rattle.sp_theory.proofs.Records.{more_records, record_at-last, member_more, plan_more, values_more}
 use Rattle.sp_theory.proofs.Pruning.{value_pruned, pruned_members}
 
-pub record IsSound (t : Task) (b : Book) : Type 0 where
+pub record IsKept (t : Task) (b : Book) : Type 0 where
   pub some : 0 < length b.records
   pub plan : IsPlan t.model b.records
   pub values : HasValues t.model b.records
@@ -41,7 +41,7 @@ reaches_more m edition x w z (k, y, less, is, high) = (k, y, omega (arith, lengt
 pub reaches_lower : (m : Model) (edition : Edition) (w : Weights) (y z : ℤ) → y ≤ℤ z → Reaches m edition w z → Reaches m edition w y
 reaches_lower m edition w y z low (k, x, less, is, high) = (k, x, less, is, ≤ℤ_trans low high)
 
-pub sound_entered : (t : Task) (b : Book) (o : Option Member) → IsSound t b → ForSome o (IsMember t.model b.records) → IsSound t (entered t b o)
+pub sound_entered : (t : Task) (b : Book) (o : Option Member) → IsKept t b → ForSome o (IsMember t.model b.records) → IsKept t (entered t b o)
 unfolding entered
 sound_entered t b None sound member = sound
 sound_entered t b (Some x) sound member = record {
@@ -59,7 +59,7 @@ sound_entered t b (Some x) sound member = record {
     raised_by k within false true e f up = absurd (cc)
     raised_by k within false false e f up = Any-push (λ y. value t.model b.latest (t.samples k) ≤ℤ dot t.model (t.samples k) y.vector) b.grown x (omega (arith, ints))
 
-pub sound_opening : (t : Task) → IsSound t (opening t)
+pub sound_opening : (t : Task) → IsKept t (opening t)
 unfolding opening leaf leaf_member record_at
 sound_opening t = record {
   some = omega arith;
@@ -71,14 +71,14 @@ sound_opening t = record {
   rising = λ i j d less within. absurd (omega arith);
 }
 
-pub latest_members : (t : Task) (b : Book) → IsSound t b → All (IsMember t.model b.records) b.latest
+pub latest_members : (t : Task) (b : Book) → IsKept t b → All (IsMember t.model b.records) b.latest
 latest_members t b sound = subst (All (IsMember t.model b.records)) (get_or-append_seam b.earlier b.latest [] b.latest) (sound.members (length b.earlier) b.latest (omega (arith, length-append b.earlier (b.latest ∷ []))))
 
 pub choice_known : (m : Model) (lawful : IsLawful m) (edition : Edition) (w : Weights) → choice m edition w < m.actions
 unfolding choice
 choice_known m lawful edition w = greatest_case _ _ (λ a. a < m.actions) 0 (range_with_len 0 m.actions) lawful.some_action (λ k d less. omega (arith, get_or-range_with_len 0 m.actions k d (omega (arith, length-range_with_len 0 m.actions)), length-range_with_len 0 m.actions))
 
-pub sound_more : (t : Task) (lawful : IsLawful t.model) (b : Book) (w : Weights) (edition : Edition) (a : ℕ) (links : List ℕ) → IsSound t b → All (IsMember t.model b.records) edition → IsBackup t.model edition w a links → IsSound t (record b { records = b.records ++ settled_record t b a links ∷ [] })
+pub sound_more : (t : Task) (lawful : IsLawful t.model) (b : Book) (w : Weights) (edition : Edition) (a : ℕ) (links : List ℕ) → IsKept t b → All (IsMember t.model b.records) edition → IsBackup t.model edition w a links → IsKept t (record b { records = b.records ++ settled_record t b a links ∷ [] })
 unfolding link_at leaf_member
 sound_more t lawful b w edition a links sound members backup = record {
   some = omega (arith, more_records t.model b.records (settled_record t b a links));
@@ -115,7 +115,7 @@ entering_member t b records k x new none latest = by_test (b.improved k) (int_lt
     by_test false g true = held (greatest_member t.model b.latest (t.samples k)) kept
     by_test false g false = held x new
 
-pub leaf_is_member : (t : Task) (b : Book) → IsSound t b → IsMember t.model b.records (leaf_member t.model)
+pub leaf_is_member : (t : Task) (b : Book) → IsKept t b → IsMember t.model b.records (leaf_member t.model)
 unfolding leaf_member
 leaf_is_member t b sound = (sound.some, (λ h s. sym (sound.values.leaf_vector s) h), sym sound.plan.leaf_action)
 
@@ -126,7 +126,7 @@ to_last t xs y rising i d less =
     (λ last k within. le_same (ap (λ (x : Edition). value t.model x (t.samples k)) (ap (λ (n : ℕ). get_or (xs ++ y ∷ []) n d) last ∙ get_or-append_seam xs y [] d)))
     (λ past. absurd (omega (arith, length-append xs (y ∷ []))))
 
-pub sound_after : (t : Task) (lawful : IsLawful t.model) (b : Book) (e : Event) → IsSound t b → Allowed t b e → IsSound t (after_event t b e)
+pub sound_after : (t : Task) (lawful : IsLawful t.model) (b : Book) (e : Event) → IsKept t b → Allowed t b e → IsKept t (after_event t b e)
 unfolding Allowed after_event
 sound_after t lawful b (settle k e a links) sound (going, within, exists, backup) = sound_entered t (record b { records = b.records ++ settled_record t b a links ∷ [] }) (entering t b k (settled_member t b a links)) (sound_more t lawful b (t.samples k) (get_or (editions b) e b.latest) a links sound (sound.members e b.latest exists) backup) (entering_member t b (b.records ++ settled_record t b a links ∷ []) k (settled_member t b a links)
     (omega (arith, more_records t.model b.records (settled_record t b a links)), ap (λ (y : Record). y.vector) (sym (record_at-last t.model b.records (settled_record t b a links))), ap (λ (y : Record). y.action) (sym (record_at-last t.model b.records (settled_record t b a links))))
@@ -148,13 +148,13 @@ sound_after t lawful b (prune pairs) sound (going, some, can) = record {
   values = sound.values;
   members = All-push (All (IsMember t.model b.records)) (editions b) (pruned b.latest pairs) sound.members (pruned_members (IsMember t.model b.records) b.latest pairs (latest_members t b sound));
   grown_members = sound.grown_members;
-  reaches = λ k within up. reaches_lower t.model b.grown (t.samples k) _ _ (value_pruned t.model b.records (t.samples k) b.latest pairs (latest_members t b sound) can).1 (sound.reaches k within up);
+  reaches = λ k within up. reaches_lower t.model b.grown (t.samples k) _ _ (value_pruned t.model (t.samples k) b.latest pairs can).1 (sound.reaches k within up);
   rising = all_pairs_push (Rises t) (editions b) (pruned b.latest pairs) sound.rising
-      (λ i d less k within. ≤ℤ_trans (to_last t b.earlier b.latest sound.rising i d less k within) (value_pruned t.model b.records (t.samples k) b.latest pairs (latest_members t b sound) can).0);
+      (λ i d less k within. ≤ℤ_trans (to_last t b.earlier b.latest sound.rising i d less k within) (value_pruned t.model (t.samples k) b.latest pairs can).0);
 }
 sound_after t lawful b end sound (going, none) = record { some = sound.some; plan = sound.plan; values = sound.values; members = sound.members; grown_members = sound.grown_members; reaches = sound.reaches; rising = sound.rising }
 
-pub sound_replay : (t : Task) (lawful : IsLawful t.model) (b : Book) (es : List Event) → IsSound t b → IsHistory t b es → IsSound t (replay t b es)
+pub sound_replay : (t : Task) (lawful : IsLawful t.model) (b : Book) (es : List Event) → IsKept t b → IsHistory t b es → IsKept t (replay t b es)
 unfolding IsHistory replay
 sound_replay t lawful b [] sound history = sound
 sound_replay t lawful b (e ∷ es) sound (allowed, rest) = sound_replay t lawful (after_event t b e) es (sound_after t lawful b e sound allowed) rest

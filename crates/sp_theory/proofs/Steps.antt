@@ -8,19 +8,19 @@ use Rattle.std.proofs.Math.Nat.{mul-le-mul_right, pow-suc, pow-zero, one-mul}
 use Rattle.sp_theory.specs.Sums.{times, floor}
 use Rattle.sp_theory.specs.Points.{IsPoint}
 use Rattle.sp_theory.specs.Draws.{q, IsWhole, mean, weighed}
-use Rattle.sp_theory.specs.Model.{Model, State, IsLawful, least_return, top, ignores_next, depth}
-use Rattle.sp_theory.specs.Step.{Links, linked, discounted, step, expected_reward, expected_links, exact_step}
+use Rattle.sp_theory.specs.Model.{Model, State, IsLawful, least_return, top, ignores_next, divisions}
+use Rattle.sp_theory.specs.Step.{LinkedVectors, linked, discounted, step, expected_reward, expected_links, exact_step}
 use Rattle.sp_theory.proofs.Whole.{times-add, times-times, times_mono, floor_below, floor_above, ≤ℤ_trans, times_cancel_le}
 use Rattle.sp_theory.proofs.Order.{max_case, int_max_left, int_max_right, add_left_mono, add_right_mono}
 use Rattle.sp_theory.proofs.Weighing.{q_pos, le_same, times-swap, mean_same, mean_mono, mean-times, mean-add, mean-constant, weighed_low, weighed_high, weighed_same, weighed_to, two_low, two_high}
 use Rattle.sp_theory.proofs.Range.{least_low, top_high, least_return-le-top, ignores_next_at}
 
 -- ---- powers of q
-pub q-depth : (i j : ℕ) (z : ℤ) → times (q ^ (i + j + 1)) z ≡ times (q ^ j) (times (q ^ i) (times q z))
-q-depth i j z = ap (λ (t : ℕ). times t z) (pow-add q (i + j) 1 ∙ ap (λ (t : ℕ). t * q ^ 1) (pow-add q i j) ∙ ap (λ (t : ℕ). q ^ i * q ^ j * t) (pow-suc q 0 ∙ ap (λ (t : ℕ). t * q) (pow-zero q) ∙ one-mul q)) ∙ times-times (q ^ i * q ^ j) q z ∙ times-times (q ^ i) (q ^ j) (times q z) ∙ times-swap (q ^ i) (q ^ j) (times q z)
+pub q-divisions : (i j : ℕ) (z : ℤ) → times (q ^ (i + j + 1)) z ≡ times (q ^ j) (times (q ^ i) (times q z))
+q-divisions i j z = ap (λ (t : ℕ). times t z) (pow-add q (i + j) 1 ∙ ap (λ (t : ℕ). t * q ^ 1) (pow-add q i j) ∙ ap (λ (t : ℕ). q ^ i * q ^ j * t) (pow-suc q 0 ∙ ap (λ (t : ℕ). t * q) (pow-zero q) ∙ one-mul q)) ∙ times-times (q ^ i * q ^ j) q z ∙ times-times (q ^ i) (q ^ j) (times q z) ∙ times-swap (q ^ i) (q ^ j) (times q z)
 
-pub q-depth-suc : (i j : ℕ) (z : ℤ) → times (q ^ (i + j + 1)) z ≡ times (q ^ suc j) (times (q ^ i) z)
-q-depth-suc i j z = let e : i + j + 1 ≡ suc j + i = omega arith in ap (λ (t : ℕ). times (q ^ t) z) e ∙ ap (λ (t : ℕ). times t z) (pow-add q (suc j) i) ∙ times-times (q ^ suc j) (q ^ i) z
+pub q-divisions-suc : (i j : ℕ) (z : ℤ) → times (q ^ (i + j + 1)) z ≡ times (q ^ suc j) (times (q ^ i) z)
+q-divisions-suc i j z = let e : i + j + 1 ≡ suc j + i = omega arith in ap (λ (t : ℕ). times (q ^ t) z) e ∙ ap (λ (t : ℕ). times t z) (pow-add q (suc j) i) ∙ times-times (q ^ suc j) (q ^ i) z
 
 pub q-suc : (j : ℕ) (z : ℤ) → times (q ^ suc j) z ≡ times (q ^ j) (times q z)
 q-suc j z = ap (λ (t : ℕ). times t z) (pow-suc q j) ∙ times-times (q ^ j) q z
@@ -37,7 +37,7 @@ module _ (i j g : ℕ) (r out future : ℤ) where
   gain_low h =
       let parts = times-add (q ^ (i + j + 1)) r (floor (times g out) q) in
       let chain : times (q ^ (i + j + 1)) (floor (times g out) q) ≤ℤ times g future =
-      ≤ℤ_trans (le_same (q-depth i j (floor (times g out) q)))
+      ≤ℤ_trans (le_same (q-divisions i j (floor (times g out) q)))
       (≤ℤ_trans (times_mono (q ^ j) _ _ (times_mono (q ^ i) _ _ (floor_below (times g out) q q_pos)))
       (≤ℤ_trans (le_same (turned i j g out)) (times_mono g _ _ h))) in
       ≤ℤ_trans (le_same parts) (add_left_mono (times (q ^ (i + j + 1)) r) _ _ chain)
@@ -64,7 +64,7 @@ module _ (i j g : ℕ) (r out future : ℤ) where
           ≤ℤ_trans (times_mono g _ _ h)
           (≤ℤ_trans (le_same (sym (turned i j g _)))
           (≤ℤ_trans (times_mono (q ^ j) _ _ (times_mono (q ^ i) _ _ inside))
-          (le_same (sym (q-depth i j _)))))
+          (le_same (sym (q-divisions i j _)))))
 
 -- ---- reward and discount before the next state is weighed out
 module _ (j g : ℕ) (r out seen : ℤ) where
@@ -97,18 +97,18 @@ module _ (j g : ℕ) (r out seen : ℤ) where
 
 -- ---- the exact step
 module _ (m : Model) (a : ℕ) (s : State) where
-  pub expected_links_mono : (f g : Links) → ((seen next : List ℕ) → IsPoint m.sight_sizes seen → IsPoint m.sizes next → f seen next ≤ℤ g seen next) → expected_links m a f s ≤ℤ expected_links m a g s
+  pub expected_links_mono : (f g : LinkedVectors) → ((seen next : List ℕ) → IsPoint m.sight_sizes seen → IsPoint m.sizes next → f seen next ≤ℤ g seen next) → expected_links m a f s ≤ℤ expected_links m a g s
   expected_links_mono f g h = mean_mono m.sizes (m.moves a s) _ _ (λ next n. mean_mono m.sight_sizes (m.sights a next) _ _ (λ seen o. h seen next o n))
 
-  pub expected_links-times : (k : ℕ) (f : Links) → expected_links m a (λ seen next. times k (f seen next)) s ≡ times k (expected_links m a f s)
+  pub expected_links-times : (k : ℕ) (f : LinkedVectors) → expected_links m a (λ seen next. times k (f seen next)) s ≡ times k (expected_links m a f s)
   expected_links-times k f = mean_same m.sizes (m.moves a s) _ _ (λ next n. mean-times m.sight_sizes (m.sights a next) k (λ seen. f seen next)) ∙ mean-times m.sizes (m.moves a s) k _
 
-  pub exact_step_mono : (f g : Links) → ((seen next : List ℕ) → IsPoint m.sight_sizes seen → IsPoint m.sizes next → f seen next ≤ℤ g seen next) → exact_step m a f s ≤ℤ exact_step m a g s
+  pub exact_step_mono : (f g : LinkedVectors) → ((seen next : List ℕ) → IsPoint m.sight_sizes seen → IsPoint m.sizes next → f seen next ≤ℤ g seen next) → exact_step m a f s ≤ℤ exact_step m a g s
   unfolding exact_step
   exact_step_mono f g h = add_left_mono (times (q ^ suc (length m.sight_sizes)) (expected_reward m a s)) _ _ (times_mono m.discount _ _ (expected_links_mono f g h))
 
   -- the same as one expectation over the next state
-  exact_joined : (f : Links) → exact_step m a f s ≡ mean m.sizes (m.moves a s) (λ next. times (q ^ suc (length m.sight_sizes)) (m.reward a s next) +ℤ times m.discount (mean m.sight_sizes (m.sights a next) (λ seen. f seen next)))
+  exact_joined : (f : LinkedVectors) → exact_step m a f s ≡ mean m.sizes (m.moves a s) (λ next. times (q ^ suc (length m.sight_sizes)) (m.reward a s next) +ℤ times m.discount (mean m.sight_sizes (m.sights a next) (λ seen. f seen next)))
   unfolding exact_step
   exact_joined f = sym (mean-add m.sizes (m.moves a s) (λ next. times (q ^ suc (length m.sight_sizes)) (m.reward a s next)) (λ next. times m.discount (mean m.sight_sizes (m.sights a next) (λ seen. f seen next)))
       ∙ (λ h. mean-times m.sizes (m.moves a s) (q ^ suc (length m.sight_sizes)) (m.reward a s) h +ℤ mean-times m.sizes (m.moves a s) m.discount (λ next. mean m.sight_sizes (m.sights a next) (λ seen. f seen next)) h))
@@ -124,9 +124,9 @@ module _ (m : Model) (lawful : IsLawful m) (a : ℕ) (known : a < m.actions) (s 
   moved = lawful.moves_whole a s known at
 
   -- where each link is worth the least return, the exact step is worth at least that
-  pub least_step : times (q ^ depth m) (least_return m) ≤ℤ exact_step m a (λ seen next. least_return m) s
+  pub least_step : times (q ^ divisions m) (least_return m) ≤ℤ exact_step m a (λ seen next. least_return m) s
   least_step =
-      ≤ℤ_trans (le_same (q-depth-suc (length m.sizes) l (least_return m) ∙ times-swap (q ^ suc l) (q ^ length m.sizes) (least_return m) ∙ sym (mean-constant m.sizes (m.moves a s) (times (q ^ suc l) (least_return m)) moved)))
+      ≤ℤ_trans (le_same (q-divisions-suc (length m.sizes) l (least_return m) ∙ times-swap (q ^ suc l) (q ^ length m.sizes) (least_return m) ∙ sym (mean-constant m.sizes (m.moves a s) (times (q ^ suc l) (least_return m)) moved)))
       (≤ℤ_trans (mean_mono m.sizes (m.moves a s) _ _ each)
       (le_same (sym (exact_joined m a s (λ seen next. least_return m)))))
     where
@@ -137,7 +137,7 @@ module _ (m : Model) (lawful : IsLawful m) (a : ℕ) (known : a < m.actions) (s 
           (le_same (times-add (q ^ l) (times q (m.reward a s next)) (times m.discount (least_return m))
           ∙ (λ h. sym (q-suc l (m.reward a s next)) h +ℤ (times-swap (q ^ l) m.discount (least_return m) ∙ ap (times m.discount) (sym (mean-constant m.sight_sizes (m.sights a next) (least_return m) (lawful.sights_whole a next known n)))) h))))
 
-  module _ (links : Links) where
+  module _ (links : LinkedVectors) where
     -- the two cases of the floored step before the least return is put under them
     late : ℤ
     late = m.reward a s s +ℤ discounted m (weighed m.sizes (m.moves a s) (linked m a links))
@@ -152,48 +152,48 @@ module _ (m : Model) (lawful : IsLawful m) (a : ℕ) (known : a < m.actions) (s 
     linked_high = two_high m.sizes (m.moves a s) l _ _ moved (λ next n. weighed_high m.sight_sizes (m.sights a next) (λ seen. links seen next) (lawful.sights_whole a next known n))
 
     -- a reward that ignores the next state is expected exactly
-    exact_late : ignores_next m a ≡ true → exact_step m a links s ≡ times (q ^ depth m) (m.reward a s s) +ℤ times m.discount (expected_links m a links s)
+    exact_late : ignores_next m a ≡ true → exact_step m a links s ≡ times (q ^ divisions m) (m.reward a s s) +ℤ times m.discount (expected_links m a links s)
     unfolding exact_step
     exact_late e = ap (λ (z : ℤ). z +ℤ times m.discount (expected_links m a links s))
         (ap (times (q ^ suc l)) (mean_same m.sizes (m.moves a s) (m.reward a s) (λ next. m.reward a s s) (λ next n. ignores_next_at m a e s next s at n at) ∙ mean-constant m.sizes (m.moves a s) (m.reward a s s) moved)
-        ∙ sym (q-depth-suc (length m.sizes) l (m.reward a s s)))
+        ∙ sym (q-divisions-suc (length m.sizes) l (m.reward a s s)))
 
-    late_low : ignores_next m a ≡ true → times (q ^ depth m) late ≤ℤ exact_step m a links s
+    late_low : ignores_next m a ≡ true → times (q ^ divisions m) late ≤ℤ exact_step m a links s
     unfolding late
     late_low e = ≤ℤ_trans (gain_low (length m.sizes) l m.discount (m.reward a s s) _ _ linked_low) (le_same (sym (exact_late e)))
 
-    late_high : ignores_next m a ≡ true → exact_step m a links s ≤ℤ times (q ^ depth m) (late +ℤ pos (depth m))
+    late_high : ignores_next m a ≡ true → exact_step m a links s ≤ℤ times (q ^ divisions m) (late +ℤ pos (divisions m))
     unfolding late
     late_high e = ≤ℤ_trans (le_same (exact_late e)) (gain_high (length m.sizes) l m.discount (m.reward a s s) _ _ small linked_high)
 
-    early_is_low : times (q ^ depth m) early ≤ℤ exact_step m a links s
+    early_is_low : times (q ^ divisions m) early ≤ℤ exact_step m a links s
     unfolding early
     early_is_low =
-        ≤ℤ_trans (le_same (q-depth-suc (length m.sizes) l early))
+        ≤ℤ_trans (le_same (q-divisions-suc (length m.sizes) l early))
         (≤ℤ_trans (two_low m.sizes (m.moves a s) (suc l) _ _ (λ next n. early_low l m.discount (m.reward a s next) _ _ (weighed_low m.sight_sizes (m.sights a next) (λ seen. links seen next))))
         (le_same (sym (exact_joined m a s links))))
 
-    early_is_high : exact_step m a links s ≤ℤ times (q ^ depth m) (early +ℤ pos (depth m))
+    early_is_high : exact_step m a links s ≤ℤ times (q ^ divisions m) (early +ℤ pos (divisions m))
     unfolding early
     early_is_high =
-        let same : length m.sizes + suc l ≡ depth m = omega arith in
+        let same : length m.sizes + suc l ≡ divisions m = omega arith in
         ≤ℤ_trans (le_same (exact_joined m a s links))
         (≤ℤ_trans (two_high m.sizes (m.moves a s) (suc l) _ _ moved (λ next n. early_high l m.discount (m.reward a s next) _ _ small (weighed_high m.sight_sizes (m.sights a next) (λ seen. links seen next) (lawful.sights_whole a next known n))))
-        (le_same (ap (λ (k : ℕ). times (q ^ suc l) (times (q ^ length m.sizes) (early +ℤ pos k))) same ∙ sym (q-depth-suc (length m.sizes) l (early +ℤ pos (depth m))))))
+        (le_same (ap (λ (k : ℕ). times (q ^ suc l) (times (q ^ length m.sizes) (early +ℤ pos k))) same ∙ sym (q-divisions-suc (length m.sizes) l (early +ℤ pos (divisions m))))))
 
-    pub step_low : ((seen next : List ℕ) → IsPoint m.sight_sizes seen → IsPoint m.sizes next → least_return m ≤ℤ links seen next) → times (q ^ depth m) (step m a links s) ≤ℤ exact_step m a links s
+    pub step_low : ((seen next : List ℕ) → IsPoint m.sight_sizes seen → IsPoint m.sizes next → least_return m ≤ℤ links seen next) → times (q ^ divisions m) (step m a links s) ≤ℤ exact_step m a links s
     unfolding step late early
-    step_low from = max_case (λ z. times (q ^ depth m) z ≤ℤ exact_step m a links s) (least_return m) _ (≤ℤ_trans least_step (exact_step_mono m a s (λ seen next. least_return m) links from)) (by_test (ignores_next m a) refl)
+    step_low from = max_case (λ z. times (q ^ divisions m) z ≤ℤ exact_step m a links s) (least_return m) _ (≤ℤ_trans least_step (exact_step_mono m a s (λ seen next. least_return m) links from)) (by_test (ignores_next m a) refl)
       where
-        by_test : (b : Bool) → ignores_next m a ≡ b → times (q ^ depth m) (cond b late early) ≤ℤ exact_step m a links s
+        by_test : (b : Bool) → ignores_next m a ≡ b → times (q ^ divisions m) (cond b late early) ≤ℤ exact_step m a links s
         by_test true e = late_low e
         by_test false e = early_is_low
 
-    pub step_high : exact_step m a links s ≤ℤ times (q ^ depth m) (step m a links s +ℤ pos (depth m))
+    pub step_high : exact_step m a links s ≤ℤ times (q ^ divisions m) (step m a links s +ℤ pos (divisions m))
     unfolding step late early
-    step_high = ≤ℤ_trans (by_test (ignores_next m a) refl) (times_mono (q ^ depth m) _ _ (add_right_mono _ _ (pos (depth m)) (int_max_right (least_return m) (cond (ignores_next m a) late early))))
+    step_high = ≤ℤ_trans (by_test (ignores_next m a) refl) (times_mono (q ^ divisions m) _ _ (add_right_mono _ _ (pos (divisions m)) (int_max_right (least_return m) (cond (ignores_next m a) late early))))
       where
-        by_test : (b : Bool) → ignores_next m a ≡ b → exact_step m a links s ≤ℤ times (q ^ depth m) (cond b late early +ℤ pos (depth m))
+        by_test : (b : Bool) → ignores_next m a ≡ b → exact_step m a links s ≤ℤ times (q ^ divisions m) (cond b late early +ℤ pos (divisions m))
         by_test true e = late_high e
         by_test false e = early_is_high
 
@@ -217,12 +217,12 @@ module _ (m : Model) (lawful : IsLawful m) (a : ℕ) (known : a < m.actions) (s 
         by_test false = weighed_to m.sizes (m.moves a s) _ (top m) moved (λ next n. gained (m.reward a s next) _ (top_high m lawful a s next known at n) (linked_to next n))
 
 -- no vector is below the least return
-pub step_from : (m : Model) (a : ℕ) (links : Links) (s : State) → least_return m ≤ℤ step m a links s
+pub step_from : (m : Model) (a : ℕ) (links : LinkedVectors) (s : State) → least_return m ≤ℤ step m a links s
 unfolding step
 step_from m a links s = int_max_left (least_return m) _
 
 -- equal links give equal vectors
-pub step_same : (m : Model) (a : ℕ) (f g : Links) (s : State) → ((seen next : List ℕ) → IsPoint m.sight_sizes seen → IsPoint m.sizes next → f seen next ≡ g seen next) → step m a f s ≡ step m a g s
+pub step_same : (m : Model) (a : ℕ) (f g : LinkedVectors) (s : State) → ((seen next : List ℕ) → IsPoint m.sight_sizes seen → IsPoint m.sizes next → f seen next ≡ g seen next) → step m a f s ≡ step m a g s
 unfolding step
 step_same m a f g s h = λ k. int_max (least_return m) (cond (ignores_next m a)
     (m.reward a s s +ℤ discounted m (weighed_same m.sizes (m.moves a s) _ _ same k))

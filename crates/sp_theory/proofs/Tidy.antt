@@ -15,7 +15,7 @@ use Rattle.sp_theory.proofs.Whole.{≤ℤ_trans}
 use Rattle.sp_theory.proofs.Weighing.{le_same}
 use Rattle.sp_theory.proofs.Greatest.{greatest_case}
 use Rattle.sp_theory.proofs.Pruning.{value_pruned, pruned_filled, pruned_apart}
-use Rattle.sp_theory.proofs.Sound.{IsSound, latest_members, leaf_is_member, sound_after}
+use Rattle.sp_theory.proofs.Sound.{IsKept, latest_members, leaf_is_member, sound_after}
 
 pub record IsTidy (t : Task) (b : Book) : Type 0 where
   pub filled : All (λ (ed : Edition). 0 < length ed) (editions b)
@@ -58,12 +58,12 @@ tidy_entered t b x tidy new = record {
 pub at_last : (P : Edition → Type 0) (b : Book) → All P (editions b) → P b.latest
 at_last P b all = subst P (get_or-append_seam b.earlier b.latest [] b.latest) (all (length b.earlier) b.latest (omega (arith, length-append b.earlier (b.latest ∷ []))))
 
-pub kept_member : (t : Task) (b : Book) (k : ℕ) → IsSound t b → IsMember t.model b.records (greatest_member t.model b.latest (t.samples k))
+pub kept_member : (t : Task) (b : Book) (k : ℕ) → IsKept t b → IsMember t.model b.records (greatest_member t.model b.latest (t.samples k))
 unfolding greatest_member
 kept_member t b k sound = greatest_case (λ x. dot t.model (t.samples k) x.vector) (λ x. x.id) (IsMember t.model b.records) (leaf_member t.model) b.latest (leaf_is_member t b sound) (latest_members t b sound)
 
 -- the kept member is not in the grown list yet
-pub kept_new : (t : Task) (b : Book) (k : ℕ) → k < t.beliefs → IsSound t b → IsTidy t b → b.improved k ≡ false → (j : ℕ) (d : Member) → j < length b.grown → Apart (get_or b.grown j d) (greatest_member t.model b.latest (t.samples k))
+pub kept_new : (t : Task) (b : Book) (k : ℕ) → k < t.beliefs → IsKept t b → IsTidy t b → b.improved k ≡ false → (j : ℕ) (d : Member) → j < length b.grown → Apart (get_or b.grown j d) (greatest_member t.model b.latest (t.samples k))
 unfolding value
 kept_new t b k within sound tidy down j d less same =
     let kept = kept_member t b k sound in
@@ -71,7 +71,7 @@ kept_new t b k within sound tidy down j d less same =
     let up : b.improved k ≡ true = tidy.raisers j d less k within (le_same (ap (dot t.model (t.samples k)) (sym vectors))) in
     absurd (cc)
 
-pub tidy_after : (t : Task) (lawful : IsLawful t.model) (b : Book) (e : Event) → 0 < t.beliefs → IsSound t b → IsTidy t b → Allowed t b e → IsTidy t (after_event t b e)
+pub tidy_after : (t : Task) (lawful : IsLawful t.model) (b : Book) (e : Event) → 0 < t.beliefs → IsKept t b → IsTidy t b → Allowed t b e → IsTidy t (after_event t b e)
 unfolding Allowed after_event entered
 tidy_after t lawful b (settle k e a links) some sound tidy (going, within, exists, backup) =
     entering_case t b k (settled_member t b a links) (λ o. IsTidy t (entered t grown_records o)) (same tidy)
@@ -93,10 +93,10 @@ tidy_after t lawful b publish some sound tidy (going, all) = record {
     has_some : {P : Member → Type 0} (xs : Edition) → Any P xs → 0 < length xs
     has_some xs (k, x, less, is, p) = omega arith
 tidy_after t lawful b (prune pairs) some sound tidy (going, any, can) = record {
-  filled = All-push (λ (ed : Edition). 0 < length ed) (editions b) (pruned b.latest pairs) tidy.filled (pruned_filled t.model b.records b.latest pairs (at_last (λ (ed : Edition). 0 < length ed) b tidy.filled) can);
+  filled = All-push (λ (ed : Edition). 0 < length ed) (editions b) (pruned b.latest pairs) tidy.filled (pruned_filled t.model b.latest pairs (at_last (λ (ed : Edition). 0 < length ed) b tidy.filled) can);
   apart = All-push (AllPairs Apart) (editions b) (pruned b.latest pairs) tidy.apart (pruned_apart b.latest pairs (at_last (AllPairs Apart) b tidy.apart));
   grown_apart = tidy.grown_apart;
-  raisers = λ j d less k within high. tidy.raisers j d less k within (≤ℤ_trans (value_pruned t.model b.records (t.samples k) b.latest pairs (latest_members t b sound) can).0 high);
+  raisers = λ j d less k within high. tidy.raisers j d less k within (≤ℤ_trans (value_pruned t.model (t.samples k) b.latest pairs can).0 high);
 }
 tidy_after t lawful b end some sound tidy (going, none) = record { filled = tidy.filled; apart = tidy.apart; grown_apart = tidy.grown_apart; raisers = tidy.raisers }
 
@@ -109,7 +109,7 @@ tidy_opening t = record {
   raisers = λ j d less. absurd (omega arith);
 }
 
-pub tidy_replay : (t : Task) (lawful : IsLawful t.model) → 0 < t.beliefs → (b : Book) (es : List Event) → IsSound t b → IsTidy t b → IsHistory t b es → IsTidy t (replay t b es)
+pub tidy_replay : (t : Task) (lawful : IsLawful t.model) → 0 < t.beliefs → (b : Book) (es : List Event) → IsKept t b → IsTidy t b → IsHistory t b es → IsTidy t (replay t b es)
 unfolding IsHistory replay
 tidy_replay t lawful some b [] sound tidy history = tidy
 tidy_replay t lawful some b (e ∷ es) sound tidy (allowed, rest) = tidy_replay t lawful some (after_event t b e) es (sound_after t lawful b e sound allowed) (tidy_after t lawful b e some sound tidy allowed) rest

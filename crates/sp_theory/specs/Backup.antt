@@ -43,7 +43,7 @@ exact_estimate m w a seen v = dot m w (λ s. mean m.sizes (m.moves a s) (λ next
 unfoldable pub exact_link : Model → Edition → Weights → ℕ → List ℕ → Member
 exact_link m edition w a seen = greatest (leaf_member m) (λ x. exact_estimate m w a seen x.vector) (λ x. x.id) edition
 
--- an action's worth: expected reward, and for each joint observation the most that a member brings, discounted; over q to the depth
+-- an action's worth: expected reward, and for each joint observation the most that a member brings, discounted; over q to the number of divisions
 unfoldable pub exact_worth : Model → Edition → Weights → ℕ → ℤ
 exact_worth m edition w a =
     times (q ^ suc (length m.sight_sizes)) (dot m w (expected_reward m a))

@@ -1,6 +1,7 @@
 -- The book of a planning run: its records, editions and flags, and what each event does to them.
 use Rattle.std.proofs.Common.{◌≡◌, ◌≢◌, ℕ, ◌<◌, ◌-◌, List, [], ◌∷◌, ◌++◌, length, get_or, Bool, true, false, cond, not, ◌||◌, Option, Some, None, eqb}
-use Rattle.std.specs.Prelude.{◌≤ℤ◌, int_lt, filter, Any}
+use Rattle.std.specs.Prelude.{◌≤ℤ◌, int_lt, filter, All, Any}
+use Rattle.std.specs.List.{fold}
 use Rattle.sp_theory.specs.Points.{IsPoint}
 use Rattle.sp_theory.specs.Model.{Model, State}
 use Rattle.sp_theory.specs.Step.{step}
@@ -82,21 +83,24 @@ without edition id = filter (λ z. not (eqb z.id id)) edition
 
 -- the edition without the first of each pair
 unfoldable pub pruned : Edition → List (ℕ × ℕ) → Edition
-pruned edition [] = edition
-pruned edition ((x, y) ∷ pairs) = pruned (without edition x) pairs
+pruned edition pairs = fold (λ left pair. without left pair.0) edition pairs
 
 -- a member of the edition has that id
 abbrev pub IsPresent : Edition → ℕ → Type 0
 IsPresent edition id = Any (λ z. z.id ≡ id) edition
 
--- the vector of record x is at no state above that of record y
-abbrev pub IsUnder : Model → List Record → ℕ → ℕ → Type 0
-IsUnder m records x y = (s : State) → IsPoint m.sizes s → (record_at m records x).vector s ≤ℤ (record_at m records y).vector s
+-- member x is at no state above member y
+abbrev pub IsUnder : Model → Member → Member → Type 0
+IsUnder m x y = (s : State) → IsPoint m.sizes s → x.vector s ≤ℤ y.vector s
 
--- at each pair in turn: two members of what remains of the edition, the first under the second
-abbrev pub CanPrune : Model → List Record → Edition → List (ℕ × ℕ) → Type 0
-CanPrune m records edition [] = Unit {0}
-CanPrune m records edition ((x, y) ∷ pairs) = (x ≢ y) × IsPresent edition x × IsPresent edition y × IsUnder m records x y × CanPrune m records (without edition x) pairs
+-- each member of id x is under a member of id y
+abbrev pub AreUnder : Model → Edition → ℕ → ℕ → Type 0
+AreUnder m edition x y = All (λ p. p.id ≡ x → Any (λ r. (r.id ≡ y) × IsUnder m p r) edition) edition
+
+-- at each pair in turn: the ids of two members of what remains of the edition, the first under the second
+abbrev pub CanPrune : Model → Edition → List (ℕ × ℕ) → Type 0
+CanPrune m edition [] = Unit {0}
+CanPrune m edition ((x, y) ∷ pairs) = (x ≢ y) × IsPresent edition x × IsPresent edition y × AreUnder m edition x y × CanPrune m (without edition x) pairs
 
 -- ---- events
 -- the flags of all sampled beliefs are up
@@ -107,7 +111,7 @@ AllImproved t b = (k : ℕ) → k < t.beliefs → b.improved k ≡ true
 unfoldable pub Allowed : Task → Book → Event → Type 0
 Allowed t b (settle k e a links) = (b.done ≡ false) × (k < t.beliefs) × (e < length (editions b)) × IsBackup t.model (get_or (editions b) e b.latest) (t.samples k) a links
 Allowed t b publish = (b.done ≡ false) × AllImproved t b
-Allowed t b (prune pairs) = (b.done ≡ false) × (0 < length pairs) × CanPrune t.model b.records b.latest pairs
+Allowed t b (prune pairs) = (b.done ≡ false) × (0 < length pairs) × CanPrune t.model b.latest pairs
 Allowed t b end = (b.done ≡ false) × (b.stages_left ≡ 0)
 
 -- the book after the event

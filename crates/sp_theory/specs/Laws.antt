@@ -4,9 +4,9 @@ use Rattle.std.specs.Prelude.{ℤ, pos, neg_ℤ, ◌+ℤ◌, ◌≤ℤ◌, ◌<�
 use Rattle.sp_theory.specs.Sums.{times, sum_below}
 use Rattle.sp_theory.specs.Points.{IsPoint, count_of}
 use Rattle.sp_theory.specs.Draws.{q, Draws, IsWhole, mean, weigh_out, weighed}
-use Rattle.sp_theory.specs.Model.{Model, State, Vector, IsLawful, least_reward, greatest_reward, AreRewards, IsReached, least_return, top, depth}
-use Rattle.sp_theory.specs.Step.{Links, step, exact_step}
-use Rattle.sp_theory.specs.Plan.{Record, record_at, return_of, IsPlan, HasValues}
+use Rattle.sp_theory.specs.Model.{Model, State, Vector, IsLawful, least_reward, greatest_reward, AreRewards, IsReached, least_return, top, divisions}
+use Rattle.sp_theory.specs.Step.{LinkedVectors, step, exact_step}
+use Rattle.sp_theory.specs.Plan.{Record, record_at, exact_return, IsPlan, HasValues}
 use Rattle.sp_theory.specs.Values.{Weights, Member, Edition, greatest, dot, total, value, Reaches}
 use Rattle.sp_theory.specs.Backup.{estimate, exact_estimate, candidate, choice, exact_backup, tick_bound}
 use Rattle.sp_theory.specs.Book.{Task, Book, Event, settle, publish, prune, end, opening, editions, settled_record, IsMember, pruned, CanPrune, Allowed, after_event}
@@ -54,22 +54,22 @@ WeighingsAreClose = (sizes : List ℕ) (draws : Draws) (f : List ℕ → ℤ) �
 
 -- ---- one step
 -- each link is at least the least return at each next state
-abbrev pub AreFromLeast : Model → Links → Type 0
+abbrev pub AreFromLeast : Model → LinkedVectors → Type 0
 AreFromLeast m links = (seen next : List ℕ) → IsPoint m.sight_sizes seen → IsPoint m.sizes next → least_return m ≤ℤ links seen next
 
 -- each link is at most the top at each next state
-abbrev pub AreToTop : Model → Links → Type 0
+abbrev pub AreToTop : Model → LinkedVectors → Type 0
 AreToTop m links = (seen next : List ℕ) → IsPoint m.sight_sizes seen → IsPoint m.sizes next → links seen next ≤ℤ top m
 
 -- the floored one-step value is at most the exact one of its links, and at most n + m + 1 ticks below it
 abbrev pub StepIsClose : Type 0
-StepIsClose = (m : Model) → IsLawful m → (a : ℕ) → a < m.actions → (links : Links) → AreFromLeast m links → (s : State) → IsPoint m.sizes s
-    → (times (q ^ depth m) (step m a links s) ≤ℤ exact_step m a links s)
-    × (exact_step m a links s ≤ℤ times (q ^ depth m) (step m a links s +ℤ pos (depth m)))
+StepIsClose = (m : Model) → IsLawful m → (a : ℕ) → a < m.actions → (links : LinkedVectors) → AreFromLeast m links → (s : State) → IsPoint m.sizes s
+    → (times (q ^ divisions m) (step m a links s) ≤ℤ exact_step m a links s)
+    × (exact_step m a links s ≤ℤ times (q ^ divisions m) (step m a links s +ℤ pos (divisions m)))
 
 -- it is between the least return and the top
 abbrev pub StepIsInRange : Type 0
-StepIsInRange = (m : Model) → IsLawful m → (a : ℕ) → a < m.actions → (links : Links) → AreToTop m links → (s : State) → IsPoint m.sizes s
+StepIsInRange = (m : Model) → IsLawful m → (a : ℕ) → a < m.actions → (links : LinkedVectors) → AreToTop m links → (s : State) → IsPoint m.sizes s
     → (least_return m ≤ℤ step m a links s) × (step m a links s ≤ℤ top m)
 
 -- an estimate is at most the exact one, and at most n + m ticks for each unit of weight below it
@@ -83,8 +83,8 @@ EstimateIsClose = (m : Model) → IsLawful m → (w : Weights) (a : ℕ) → a <
 -- a vector that is worth so much at the weights is at most the exact backup on the edition, and at most K ticks for each unit of weight below it
 abbrev pub IsCloseAt : Model → Edition → Weights → ℤ → Type 0
 IsCloseAt m edition w worth =
-    (times (q ^ depth m) worth ≤ℤ exact_backup m edition w)
-    × (exact_backup m edition w ≤ℤ times (q ^ depth m) (worth +ℤ times (tick_bound m) (total m w)))
+    (times (q ^ divisions m) worth ≤ℤ exact_backup m edition w)
+    × (exact_backup m edition w ≤ℤ times (q ^ divisions m) (worth +ℤ times (tick_bound m) (total m w)))
 
 -- the backup on an edition that is not empty and nowhere below the least return
 abbrev pub BackupIsClose : Type 0
@@ -119,24 +119,28 @@ GreatestIsLeast X = (none : X) (score : X → ℤ) (id : X → ℕ) (xs : List X
 -- a plan is worth at least the least return, from each record, at each height and state
 abbrev pub ReturnsAreFromLeast : Type 0
 ReturnsAreFromLeast = (m : Model) → IsLawful m → (records : List Record) → IsPlan m records
-    → (h i : ℕ) (s : State) → IsPoint m.sizes s → times (q ^ (depth m * h)) (least_return m) ≤ℤ return_of m records h i s
+    → (h i : ℕ) (s : State) → IsPoint m.sizes s → times (q ^ (divisions m * h)) (least_return m) ≤ℤ exact_return m records h i s
 
 -- each record's vector is at most its exact return, and between the least return and the top
-abbrev pub VectorsAreReturned : Type 0
-VectorsAreReturned = (m : Model) → IsLawful m → (records : List Record) → IsPlan m records → HasValues m records
+abbrev pub VectorsAreLowerBounds : Type 0
+VectorsAreLowerBounds = (m : Model) → IsLawful m → (records : List Record) → IsPlan m records → HasValues m records
     → (i : ℕ) (s : State) → i < length records → IsPoint m.sizes s
-    → (times (q ^ (depth m * i)) ((record_at m records i).vector s) ≤ℤ return_of m records i i s)
+    → (times (q ^ (divisions m * i)) ((record_at m records i).vector s) ≤ℤ exact_return m records i i s)
     × (least_return m ≤ℤ (record_at m records i).vector s) × ((record_at m records i).vector s ≤ℤ top m)
 
 -- ---- pruning
 -- members that may go change no value
 abbrev pub PruningKeepsValues : Type 0
-PruningKeepsValues = (m : Model) (records : List Record) (edition : Edition) (pairs : List (ℕ × ℕ)) → All (IsMember m records) edition → CanPrune m records edition pairs
+PruningKeepsValues = (m : Model) (edition : Edition) (pairs : List (ℕ × ℕ)) → CanPrune m edition pairs
     → (w : Weights) → value m (pruned edition pairs) w ≡ value m edition w
 
--- the dominated members of an edition may go, in order, where both members of a pair are still there
+-- members of one id have one vector, as members of records do
+abbrev pub IdsTellVectors : Edition → Type 0
+IdsTellVectors edition = All (λ x. All (λ y. y.id ≡ x.id → y.vector ≡ x.vector) edition) edition
+
+-- the dominated members of such an edition may go, in order, where both members of a pair are still there
 abbrev pub DominatedMayGo : Type 0
-DominatedMayGo = (m : Model) (records : List Record) (edition : Edition) → All (IsMember m records) edition → CanPrune m records edition (applying edition (dominated m edition))
+DominatedMayGo = (m : Model) (edition : Edition) → IdsTellVectors edition → CanPrune m edition (applying edition (dominated m edition))
 
 -- ---- runs
 -- no value at a sampled belief is less in the second edition
@@ -147,8 +151,8 @@ Rises t x y = (k : ℕ) → k < t.beliefs → value t.model x (t.samples k) ≤�
 abbrev pub Apart : Member → Member → Type 0
 Apart x y = x.id ≢ y.id
 
--- what the events of a run keep
-pub record IsGood (t : Task) (b : Book) : Type 0 where
+-- a sound book: what the events of a run keep
+pub record IsSound (t : Task) (b : Book) : Type 0 where
   -- the records are a plan with its vectors, and the members are records
   pub plan : IsPlan t.model b.records
   pub values : HasValues t.model b.records
@@ -156,7 +160,7 @@ pub record IsGood (t : Task) (b : Book) : Type 0 where
   pub grown_members : All (IsMember t.model b.records) b.grown
   -- each member's vector is between the least return and the top, and at most the exact return of the plan that its links spell
   pub ranged : All (All (λ x. (s : State) → IsPoint t.model.sizes s → (least_return t.model ≤ℤ x.vector s) × (x.vector s ≤ℤ top t.model))) (editions b)
-  pub returned : All (All (λ x. (s : State) → IsPoint t.model.sizes s → times (q ^ (depth t.model * x.id)) (x.vector s) ≤ℤ return_of t.model b.records x.id x.id s)) (editions b)
+  pub below_return : All (All (λ x. (s : State) → IsPoint t.model.sizes s → times (q ^ (divisions t.model * x.id)) (x.vector s) ≤ℤ exact_return t.model b.records x.id x.id s)) (editions b)
   -- no value at a sampled belief falls from an edition to a later one
   pub never_falls : AllPairs (Rises t) (editions b)
   -- where a flag is up, some grown member is there at least as good as the latest edition
@@ -169,8 +173,8 @@ pub record IsGood (t : Task) (b : Book) : Type 0 where
   pub grown_apart : AllPairs Apart b.grown
 
 -- of each book that the events of an allowed history lead to
-abbrev pub RunsAreGood : Type 0
-RunsAreGood = (t : Task) → IsLawful t.model → 0 < t.beliefs → (es : List Event) → IsHistory t (opening t) es → IsGood t (replay t (opening t) es)
+abbrev pub RunsAreSound : Type 0
+RunsAreSound = (t : Task) → IsLawful t.model → 0 < t.beliefs → (es : List Event) → IsHistory t (opening t) es → IsSound t (replay t (opening t) es)
 
 -- the last event is the end, and it stands once
 abbrev pub EndsOnce : List Event → Type 0

@@ -51,7 +51,7 @@ all_own (f ∷ fs) = f.own ++ all_own fs
 abbrev pub DependsOnOwn : List ℕ → Factor → Type 0
 DependsOnOwn sizes f = (s t : State) → IsPoint sizes s → IsPoint sizes t → All (λ i. get_or s i 0 ≡ get_or t i 0) f.own → f.share s ≡ f.share t
 
--- the law of a model's rows: every probability table sums to one
+-- the law of a model: every row of its tables sums to one, it has an action, and its discount is below one
 pub record IsLawful (m : Model) : Type 0 where
   pub moves_whole : (a : ℕ) (s : State) → a < m.actions → IsPoint m.sizes s → IsWhole m.sizes (m.moves a s)
   pub sights_whole : (a : ℕ) (next : State) → a < m.actions → IsPoint m.sizes next → IsWhole m.sight_sizes (m.sights a next)
@@ -94,6 +94,6 @@ top m = ceiling (times q (greatest_reward m)) (q - m.discount)
 unfoldable pub ignores_next : Model → ℕ → Bool
 ignores_next m a = holds_over m.sizes (λ s. holds_over m.sizes (λ next. holds_over m.sizes (λ other. int_eq (m.reward a s next) (m.reward a s other))))
 
--- c: the divisions by q in one exact step, one for each state variable, each observation variable and the discount
-abbrev pub depth : Model → ℕ
-depth m = length m.sizes + length m.sight_sizes + 1
+-- c: the power of q that the numbers of one exact step stand over: one for each state variable, each observation variable and the discount
+abbrev pub divisions : Model → ℕ
+divisions m = length m.sizes + length m.sight_sizes + 1

@@ -1,7 +1,7 @@
 -- The run that one thread makes: dominated members, the belief that a word picks, and the events.
 use Rattle.std.proofs.Common.{true, ◌≡◌, ◌⊎◌, ◌<◌, ℕ, ◌%◌, List, [], ◌∷◌, ◌++◌, length, get_or, Bool, false, cond, not, ◌||◌, ◌&&◌, eqb}
 use Rattle.std.specs.Prelude.{int_lt, nat_lt, filter}
-use Rattle.std.specs.List.{range_with_len, list_any}
+use Rattle.std.specs.List.{range_with_len, list_any, flat_map}
 use Rattle.sp_theory.specs.Sums.{holds_below}
 use Rattle.sp_theory.specs.Points.{holds_over}
 use Rattle.sp_theory.specs.Model.{Model}
@@ -12,12 +12,12 @@ use Rattle.sp_theory.specs.Runs.{replay}
 
 -- ---- dominated members
 -- x is at no state above y
-unfoldable pub is_under : Model → Member → Member → Bool
-is_under m x y = holds_over m.sizes (λ s. not (int_lt (y.vector s) (x.vector s)))
+unfoldable pub nowhere_above : Model → Member → Member → Bool
+nowhere_above m x y = holds_over m.sizes (λ s. not (int_lt (y.vector s) (x.vector s)))
 
 -- x may go for y: another member under which it is, and of two equal ones the greater id goes
 unfoldable pub yields : Model → Member → Member → Bool
-yields m x y = not (eqb x.id y.id) && (is_under m x y && (not (is_under m y x) || nat_lt y.id x.id))
+yields m x y = not (eqb x.id y.id) && (nowhere_above m x y && (not (nowhere_above m y x) || nat_lt y.id x.id))
 
 -- the least of these ids
 unfoldable pub least_id : ℕ → List Member → ℕ
@@ -29,14 +29,9 @@ abbrev pub pair_of : Member → List Member → List (ℕ × ℕ)
 pair_of x [] = []
 pair_of x (y ∷ ys) = (x.id, least_id y.id ys) ∷ []
 
--- each of the members that may go, in order, with the least id of the edition for which it may
-unfoldable pub dominated_in : Model → Edition → List Member → List (ℕ × ℕ)
-dominated_in m edition [] = []
-dominated_in m edition (x ∷ xs) = pair_of x (filter (yields m x) edition) ++ dominated_in m edition xs
-
--- the dominated members of an edition
+-- the dominated members of an edition: each that may go, in order, with the least id of the edition for which it may
 unfoldable pub dominated : Model → Edition → List (ℕ × ℕ)
-dominated m edition = dominated_in m edition edition
+dominated m edition = flat_map (λ x. pair_of x (filter (yields m x) edition)) edition
 
 -- the pairs that apply, in order: both members are present in what the pairs before have left
 unfoldable pub applying : Edition → List (ℕ × ℕ) → List (ℕ × ℕ)

@@ -4,7 +4,7 @@ use Rattle.std.specs.Prelude.{◌+ℤ◌}
 use Rattle.sp_theory.specs.Sums.{times}
 use Rattle.sp_theory.specs.Points.{IsPoint, count_of, number}
 use Rattle.sp_theory.specs.Draws.{q}
-use Rattle.sp_theory.specs.Model.{Model, State, Vector, least_return, depth}
+use Rattle.sp_theory.specs.Model.{Model, State, Vector, least_return, divisions}
 use Rattle.sp_theory.specs.Step.{step, expected_reward, expected_links}
 
 -- a node of the plan: its action, the record that each joint observation leads to by number, and its value vector
@@ -25,17 +25,17 @@ record_at m records i = get_or records i (leaf m)
 unfoldable pub link_of : Model → List ℕ → List ℕ → ℕ
 link_of m links seen = get_or links (number m.sight_sizes seen) 0
 
--- the exact return of record i at a height, over q to the depth for each: the expected discounted reward of following the plan, with the least return at the leaf.
+-- the exact return of record i at a height, over q to the number of divisions for each step: the expected discounted reward of following the plan, with the least return at the leaf.
 -- Links lead to earlier records, so record i is done at height i
-unfoldable pub return_of : Model → List Record → ℕ → ℕ → Vector
-return_of m records zero i s = least_return m
-return_of m records (suc h) zero s = times (q ^ (depth m * suc h)) (least_return m)
-return_of m records (suc h) (suc i) s =
+unfoldable pub exact_return : Model → List Record → ℕ → ℕ → Vector
+exact_return m records zero i s = least_return m
+exact_return m records (suc h) zero s = times (q ^ (divisions m * suc h)) (least_return m)
+exact_return m records (suc h) (suc i) s =
     let r = record_at m records (suc i) in
-    times (q ^ (depth m * h + suc (length m.sight_sizes))) (expected_reward m r.action s)
-    +ℤ times m.discount (expected_links m r.action (λ seen. return_of m records h (link_of m r.links seen)) s)
+    times (q ^ (divisions m * h + suc (length m.sight_sizes))) (expected_reward m r.action s)
+    +ℤ times m.discount (expected_links m r.action (λ seen. exact_return m records h (link_of m r.links seen)) s)
 
--- a plan: record 0 is the leaf, and each other record has an action of the model and a link to an earlier record for each joint observation
+-- a plan: record 0 has the leaf's action 0, and each other record has an action of the model and a link to an earlier record for each joint observation
 pub record IsPlan (m : Model) (records : List Record) : Type 0 where
   pub leaf_action : (record_at m records 0).action ≡ 0
   pub known : (i : ℕ) → suc i < length records → (record_at m records (suc i)).action < m.actions

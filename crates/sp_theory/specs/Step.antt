@@ -7,11 +7,11 @@ use Rattle.sp_theory.specs.Draws.{q, mean, weighed}
 use Rattle.sp_theory.specs.Model.{Model, Vector, least_return, ignores_next}
 
 -- the vector that each joint observation leads to
-abbrev pub Links : Type 0
-Links = List ℕ → Vector
+abbrev pub LinkedVectors : Type 0
+LinkedVectors = List ℕ → Vector
 
 -- the value of the links at a next state, the observation variables weighed out
-abbrev pub linked : Model → ℕ → Links → Vector
+abbrev pub linked : Model → ℕ → LinkedVectors → Vector
 linked m a links next = weighed m.sight_sizes (m.sights a next) (λ seen. links seen next)
 
 -- times the discount, rounded down
@@ -20,7 +20,7 @@ discounted m z = floor (times m.discount z) q
 
 -- the floored one-step value. Where the reward ignores the next state, this is weighed out first, then discount and reward follow (the reward is read at next = s);
 -- else discount and reward come first. The least return is put under the result
-unfoldable pub step : Model → ℕ → Links → Vector
+unfoldable pub step : Model → ℕ → LinkedVectors → Vector
 step m a links s =
     int_max (least_return m) (cond (ignores_next m a)
     (m.reward a s s +ℤ discounted m (weighed m.sizes (m.moves a s) (linked m a links)))
@@ -31,9 +31,9 @@ abbrev pub expected_reward : Model → ℕ → Vector
 expected_reward m a s = mean m.sizes (m.moves a s) (m.reward a s)
 
 -- the expected value of the links, over q for each variable
-abbrev pub expected_links : Model → ℕ → Links → Vector
+abbrev pub expected_links : Model → ℕ → LinkedVectors → Vector
 expected_links m a links s = mean m.sizes (m.moves a s) (λ next. mean m.sight_sizes (m.sights a next) (λ seen. links seen next))
 
--- the exact one-step value: expected reward plus discounted expected value of the links, over q to the depth
-unfoldable pub exact_step : Model → ℕ → Links → Vector
+-- the exact one-step value: expected reward plus discounted expected value of the links, over q to the number of divisions
+unfoldable pub exact_step : Model → ℕ → LinkedVectors → Vector
 exact_step m a links s = times (q ^ suc (length m.sight_sizes)) (expected_reward m a s) +ℤ times m.discount (expected_links m a links s)

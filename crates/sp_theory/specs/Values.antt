@@ -37,7 +37,7 @@ leaf_member m = record { id = 0; action = 0; vector = λ s. least_return m }
 abbrev pub Edition : Type 0
 Edition = List Member
 
--- the value of a vector at weights: the weighted sum, over the total of the weights
+-- the weighted sum of a vector; the value at the weights that it stands for is this over their total
 unfoldable pub dot : Model → Weights → Vector → ℤ
 dot m w v = sum_over m.sizes (λ s. times (w s) (v s))
 

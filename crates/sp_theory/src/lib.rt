@@ -12,7 +12,7 @@ mod sessions;
 
 ghost use Rattle.std.specs.Prelude.{ℕ};
 ghost use Rattle.sp_theory.specs.BooksAgreement.{EditionsAreAlike, BooksGoOnAlike};
-ghost use Rattle.sp_theory.specs.Laws.{RangeIsExact, RangeIsBounded, LegalRunsEndOnce, WeighingIsClose, WeighingsAreClose, StepIsClose, StepIsInRange, EstimateIsClose, BackupIsClose, ReturnsAreFromLeast, VectorsAreReturned, PruningKeepsValues, RunsAreGood, RecordedBackupsAreClose, StagesArePublished, PublicationsFollowSettles, DominatedMayGo, SettleGoesOn, PruneGoesOn, OneThreadGoesOn, OneThreadIsPrompt, GreatestIsLeast, SettleImproves, EndFollowsPublication, OneThreadCompletes, OneThreadEnds};
+ghost use Rattle.sp_theory.specs.Laws.{RangeIsExact, RangeIsBounded, LegalRunsEndOnce, WeighingIsClose, WeighingsAreClose, StepIsClose, StepIsInRange, EstimateIsClose, BackupIsClose, ReturnsAreFromLeast, VectorsAreLowerBounds, PruningKeepsValues, RunsAreSound, RecordedBackupsAreClose, StagesArePublished, PublicationsFollowSettles, DominatedMayGo, SettleGoesOn, PruneGoesOn, OneThreadGoesOn, OneThreadIsPrompt, GreatestIsLeast, SettleImproves, EndFollowsPublication, OneThreadCompletes, OneThreadEnds};
 ghost use Rattle.sp_theory.specs.Values.{Member};
 
 pub use beliefs::{
@@ -75,8 +75,8 @@ pub fn returns_are_from_least()
 {}
 
 /// Each vector of a plan is at most the exact return of its record, and between the least return and the top.
-pub fn vectors_are_returned()
-    ensures { VectorsAreReturned }
+pub fn vectors_are_lower_bounds()
+    ensures { VectorsAreLowerBounds }
 {}
 
 /// Members that may go change no value.
@@ -89,9 +89,9 @@ pub fn dominated_may_go()
     ensures { DominatedMayGo }
 {}
 
-/// A run makes good plans: vectors are returned, sampled values never fall, and no edition is empty or repeats a record.
-pub fn runs_are_good()
-    ensures { RunsAreGood }
+/// A run keeps its book sound: vectors are at most exact returns, sampled values never fall, no edition is empty or repeats a record.
+pub fn runs_are_sound()
+    ensures { RunsAreSound }
 {}
 
 /// Each backup that a run records is close to the exact backup on its edition.
