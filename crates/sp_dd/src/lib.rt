@@ -19,7 +19,7 @@ mod walk;
 pub use diagram::{Diagram, one_list_law, reduced_law};
 pub use laws::{floor_law, least_law, monotone_law, most_law};
 pub use lists::{Ids, Pairs};
-pub use memo::{Choice, State};
+pub use memo::{Choice, Memo, State};
 pub use nodes::Nodes;
 pub use part::Part;
 pub use slots::Scope;

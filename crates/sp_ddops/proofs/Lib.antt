@@ -8,4 +8,5 @@ pub mod RenamedLemmas
 pub mod ZeroLemmas
 pub mod SearchLemmas
 pub mod BestLemmas
+pub mod StateSumLemmas
 pub mod DotLemmas

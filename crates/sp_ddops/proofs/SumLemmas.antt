@@ -20,7 +20,7 @@ pub sum_small : (g : ℕ → ℤ) (n m : ℕ) → ((v : ℕ) → v < n → unsig
 sum_small g zero m h = omega arith
 sum_small g (suc n) m h = omega (arith, abs_add (sum_to n g) (g n), sum_small g n m (λ v l. h v (omega arith)), h n (omega arith))
 
-pub sum_fits : (g : ℕ → ℤ) (n : ℕ) → n ≤ 64 → ((v : ℕ) → v < n → unsigned_abs (g v) ≤ 2 ^ 120) → FitsSigned w128 (sum_to n g)
+sum_fits : (g : ℕ → ℤ) (n : ℕ) → n ≤ 64 → ((v : ℕ) → v < n → unsigned_abs (g v) ≤ 2 ^ 120) → FitsSigned w128 (sum_to n g)
 sum_fits g n l h = fits_signed_from_abs w128 (sum_to n g) (omega (arith, sum_small g n (2 ^ 120) h))
 
 pub sum_more : (g : ℕ → ℤ) (v : ℕ) → sum_to (v + 1) g ≡ sum_to v g +ℤ g v
@@ -112,11 +112,3 @@ sum_step s g k t r m e f h d =
 pub floored : (f : Func) (slot : ℕ) (p : Func) (n : ℕ) (t m : Func) → IsScope f.shape → n ≡ size_of f.shape slot → t ≡ front f.shape (products f slot p) n → m ≡ function_of t.shape (λ x. floor_div (value_of t x) ticks) → m ≡ weighed_out f slot p
 floored f slot p n t m c e d k =
     k ∙ ap (λ (a : Func). function_of a.shape (λ x. floor_div (value_of a x) ticks)) d ∙ floor_is f slot p n c e
-
-pub sum_step_within : (s : Shape) (g : List ℕ → ℕ → ℤ) (k n : ℕ) (t r : Func) → t ≡ front s g k → r ≡ function_of s (λ x. g x k) → IsScope s → k < n → ((x : List ℕ) → IsPoint s.sizes x → (j : ℕ) → j ≤ n → FitsSigned w128 (sum_to j (g x))) → (p : List ℕ) → IsPointOf t p → FitsSigned w128 (value_of t p +ℤ value_of r p)
-sum_step_within s g k n t r e f h l fits =
-    let P : Func → Func → Type 0 = λ a b. (p : List ℕ) → IsPointOf a p → FitsSigned w128 (value_of a p +ℤ value_of b p) in
-    subst₂ P (sym e) (sym f) (λ p w.
-    (let is : value_of (front s g k) p +ℤ value_of (function_of s (λ x. g x k)) p ≡ sum_to (k + 1) (g p) =
-    ap₂ (λ a b. a +ℤ b) (value_of-function_of s _ p (scope_some s h) w) (value_of-function_of s _ p (scope_some s h) w) ∙ sym (sum_more (g p) k) in
-    subst (FitsSigned w128) (sym is) (fits p w (k + 1) (omega (arith, l)))))

@@ -6,4 +6,4 @@ pub mod Selected
 pub mod Renamed
 pub mod Zero
 pub mod Best
-pub mod Totals
+pub mod StateSums

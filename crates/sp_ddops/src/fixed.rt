@@ -5,7 +5,6 @@ ghost use Rattle.sp_dd.specs.Operations.{restricted, summed_out, weighed_out};
 ghost use Rattle.sp_dd.specs.Ordered.{height};
 ghost use Rattle.sp_ddops.specs.Cofactors.{slot_or};
 ghost use Rattle.sp_dd.specs.Floors.{ticks};
-ghost use Rattle.sp_ddops.specs.Totals.{AreSumsFit};
 ghost use Rattle.sp_ddops.specs.Fixed.{fixed_part, IsFixedPart, product_along};
 
 use crate::cofactor::cofactor;
@@ -75,17 +74,6 @@ pub fn restrict(alloc: Global, f: &Diagram, slot: u64, value: u64) -> Result<Dia
 pub fn sum_out(alloc: Global, f: &Diagram, slot: u64) -> Result<Diagram, NoMemory>
     requires slot { slot < length f.now.shape.sizes }
     requires small { Everywhere f.now (λ v. unsigned_abs v ≤ 2 ^ 100) }
-    ensures { IfOk result (λ r. r ≡ summed_out f.now slot) }
-{
-    let _ = f.scope();
-    let made = sum_over(alloc, f, slot)?;
-    Ok(made)
-}
-
-/// The sum over a slot's values, where no partial sum is too large.
-pub fn sum_over(alloc: Global, f: &Diagram, slot: u64) -> Result<Diagram, NoMemory>
-    requires slot { slot < length f.now.shape.sizes }
-    requires fits { AreSumsFit f.now slot }
     ensures { IfOk result (λ r. r ≡ summed_out f.now slot) }
 {
     let scope = *f.scope();

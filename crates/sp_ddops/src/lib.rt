@@ -11,7 +11,7 @@ mod renamed;
 mod rows;
 mod search;
 mod select;
-mod totals;
+mod state_sums;
 
 pub use bounds::{greatest, least};
 pub use fixed::{restrict, sum_out, weigh_out};
@@ -20,4 +20,4 @@ pub use renamed::{prime, unprime};
 pub use rows::{constant, leaf_by};
 pub use search::{below, first_apart};
 pub use select::{branch, diagonal};
-pub use totals::dot;
+pub use state_sums::dot;

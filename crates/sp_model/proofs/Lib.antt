@@ -1,0 +1,9 @@
+pub mod SlotPoints
+pub mod Whole
+pub mod Counts
+pub mod Alike
+pub mod RowLaw
+pub mod RewardRange
+pub mod InitialLaw
+pub mod Bounds
+pub mod LinkLemmas
