@@ -13,6 +13,7 @@ pub mod Dependence
 pub mod Attained
 pub mod Flattened
 pub mod Indexing
+pub mod Keeping
 pub mod Known
 pub mod Steps
 pub mod Diagramming

@@ -49,8 +49,9 @@ impl Diagram {
         ensures { IfOk result (λ h. h ≡ function_of scope.now (λ p. S.meaning source.now state (at p))) }
     {
         let _ = scope.slots();
-        let mut memo = Memo::new(alloc)?;
-        let mut draft = Draft::new(alloc)?;
+        let room = source.room();
+        let mut memo = Memo::new(alloc, room)?;
+        let mut draft = Draft::new(alloc, room)?;
         let mut stack = Vec::new(alloc);
         let root = walk(scope, source, &mut memo, &mut draft, &mut stack, state)?;
         Ok(Diagram {

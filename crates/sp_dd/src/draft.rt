@@ -31,11 +31,11 @@ impl Model for Draft {
 }
 
 impl Draft {
-    /// No nodes.
-    pub fn new(alloc: Global) -> Result<Draft, NoMemory>
+    /// No nodes, with room in the table for that many.
+    pub fn new(alloc: Global, room: usize) -> Result<Draft, NoMemory>
         ensures { IfOk result (λ d. d ≡ []) }
     {
-        let hashes = Chains::new(alloc)?;
+        let hashes = Chains::new(alloc, room)?;
         Ok(Draft {
             nodes: Nodes::new(alloc),
             hashes,

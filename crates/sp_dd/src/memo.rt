@@ -1,9 +1,9 @@
 //! What is remembered of the states of a walk.
-ghost use Rattle.std.specs.Prelude.{◌≡◌, ◌↔◌, IsTrue, IfSome, IfOk, OnOk, OnErr, [], ◌∷◌, ◌++◌};
-ghost use Rattle.sp_dd.specs.Kept.{made_entry, HasEntry};
+ghost use Rattle.std.specs.Prelude.{◌≡◌, ◌<◌, ◌↔◌, IsTrue, IfSome, IfOk, OnOk, OnErr, [], ◌∷◌, ◌++◌, length};
+ghost use Rattle.sp_dd.specs.Kept.{made_entry, entries_of, HasEntry};
 
 use crate::NoMemory;
-use crate::chains::Chains;
+use crate::chains::{slot_of, width_for, zeros};
 use crate::draft::{mix, mix_part};
 use crate::part::Part;
 use std::alloc::Global;
@@ -68,63 +68,100 @@ pub struct Entry {
     pub part: Part,
 }
 
-/// States with their parts.
+/// An entry, and one more than the place of an earlier cell in the same slot of the table.
+#[derive(Clone, Copy)]
+pub struct Cell {
+    pub entry: Entry,
+    pub before: usize,
+}
+
+/// States with their parts. A state is looked for by its hash.
 #[derive(Drop)]
 pub struct Memo {
-    entries: Vec<Entry>,
-    chains: Chains,
+    cells: Vec<Cell>,
+    tops: Vec<usize>,
 }
 
 impl Model for Memo {
-    ghost use Rattle.std.specs.Prelude.{◌≡◌, List, length};
+    ghost use Rattle.std.specs.Prelude.{List, ◌<◌, length};
     ghost use Rattle.sp_dd.specs.declared.memo.Entry.{Entry};
+    ghost use Rattle.sp_dd.specs.Kept.{entries_of};
 
     ghost Value = { List Entry };
 
-    ghost view = { λ m. m.entries.items };
+    ghost view = { λ m. entries_of m.cells.items };
 
-    ghost invariant = { λ m. length m.chains ≡ length m.entries.items };
+    ghost invariant = { λ m. 0 < length m.tops.items };
 }
 
 impl Memo {
-    /// Nothing.
-    pub fn new(alloc: Global) -> Result<Memo, NoMemory>
+    /// Nothing, with room for that many states.
+    pub fn new(alloc: Global, room: usize) -> Result<Memo, NoMemory>
         ensures { IfOk result (λ m. m ≡ []) }
     {
-        let chains = Chains::new(alloc)?;
-        Ok(Memo {
-            entries: Vec::new(alloc),
-            chains,
-        })
+        let tops = zeros(alloc, 2 * width_for(room))?;
+        let cells = Vec::with_capacity(alloc, room)?;
+        Ok(Memo { cells, tops })
     }
 
     /// What is remembered of a state.
-    pub fn find(&self, state: &State) -> Option<Part>
+    pub fn find(&self, state: &State, hash: u64) -> Option<Part>
         ensures { IfSome result (λ a. HasEntry self.now state.now a) }
     {
-        let mut top = self.chains.above(state.hash());
+        let mut top = self.tops[slot_of(hash, self.tops.len())];
         while top > 0 {
-            let entry = self.entries[top - 1];
-            if entry.state.is_same(state) {
-                return Some(entry.part);
+            if top > self.cells.len() {
+                return None;
             }
-            top = self.chains.before(top - 1);
+            let cell = self.cells[top - 1];
+            if cell.entry.state.is_same(state) {
+                return Some(cell.entry.part);
+            }
+            top = cell.before.min(top - 1);
         }
         None
     }
 
     /// Remembers a state's part.
-    pub fn keep(&mut self, state: State, part: Part) -> Result<(), NoMemory>
+    pub fn keep(&mut self, state: State, hash: u64, part: Part) -> Result<(), NoMemory>
         ensures ok { OnOk result (self.new ≡ self.old ++ made_entry state part ∷ []) }
         ensures err { OnErr result (self.new ≡ self.old) }
     {
-        self.entries
-            .push(Entry { state, part })
-            .map_err(|_| NoMemory)?;
-        if self.chains.push(state.hash()).is_err() {
-            let _ = self.entries.pop();
-            return Err(NoMemory);
+        if self.cells.len() >= self.tops.len() / 2 {
+            self.widen()?;
         }
+        let slot = slot_of(hash, self.tops.len());
+        let before = self.tops[slot];
+        self.cells
+            .push(Cell {
+                entry: Entry { state, part },
+                before,
+            })
+            .map_err(|_| NoMemory)?;
+        self.tops[slot] = self.cells.len();
         Ok(())
+    }
+
+    fn widen(&mut self) -> Result<(), NoMemory>
+        ensures { self.new ≡ self.old }
+    {
+        let count = self.tops.len().saturating_mul(2);
+        let alloc = *self.cells.allocator();
+        let mut tops = zeros(alloc, count)?;
+        relink(&mut self.cells, &mut tops);
+        self.tops = tops;
+        Ok(())
+    }
+}
+
+fn relink(cells: &mut [Cell], tops: &mut [usize])
+    requires some { 0 < length tops.old }
+    ensures some { 0 < length tops.new }
+    ensures same { entries_of cells.new ≡ entries_of cells.old }
+{
+    for i in 0..cells.len() {
+        let slot = slot_of(cells[i].entry.state.hash(), tops.len());
+        cells[i].before = tops[slot];
+        tops[slot] = i + 1;
     }
 }

@@ -32,6 +32,9 @@ pub trait Source {
 
     ghost height: { Self → State → ℕ };
 
+    /// For how many states it may be well to have room at first.
+    fn room(&self) -> usize;
+
     /// Whether a state is a leaf, or on which slot it branches.
     fn step(&self, state: State) -> Step
         requires { IsState self.now state }
@@ -67,22 +70,54 @@ pub fn walk<S: Source>(
     ensures known { OnOk result (AreKnown scope.now.sizes (S.meaning source.now) memo.new draft.new) }
     ensures stack { OnOk result (stack.new.items ≡ stack.old.items) }
 {
-    let slot = match source.step(state) {
-        Step::Leaf(value) => return Ok(Part::Leaf(value)),
-        Step::Branch(slot) => slot,
-    };
-    if let Some(part) = memo.find(&state) {
+    match source.step(state) {
+        Step::Leaf(value) => Ok(Part::Leaf(value)),
+        Step::Branch(slot) => {
+            let part = walk_branch(scope, source, memo, draft, stack, state, slot)?;
+            Ok(part)
+        }
+    }
+}
+
+/// The same for a state that branches on that slot.
+fn walk_branch<S: Source>(
+    scope: &Scope,
+    source: &S,
+    memo: &mut Memo,
+    draft: &mut Draft,
+    stack: &mut Vec<Part>,
+    state: State,
+    slot: u64,
+) -> Result<Part, NoMemory>
+    requires state { S.IsState source.now state }
+    requires sizes { S.sizes source.now ≡ scope.now.sizes }
+    requires positive { ArePositive scope.now.sizes }
+    requires known { AreKnown scope.now.sizes (S.meaning source.now) memo.old draft.old }
+    requires slot { slot ≡ S.slot source.now state }
+    requires within { slot < length scope.now.sizes }
+    requires later { IsFromSlot slot (S.meaning source.now state) }
+    ensures made { IfOk result (λ a. whole scope.now.sizes (S.meaning source.now state) draft.old ≡ (draft.new, a)) }
+    ensures known { OnOk result (AreKnown scope.now.sizes (S.meaning source.now) memo.new draft.new) }
+    ensures stack { OnOk result (stack.new.items ≡ stack.old.items) }
+{
+    let hash = state.hash();
+    if let Some(part) = memo.find(&state, hash) {
         return Ok(part);
     }
     let start = stack.len();
     for value in 0..scope.size(slot) {
         let next = source.next(state, slot, value);
-        let part = walk(scope, source, memo, draft, stack, next)?;
-        push_part(stack, part)?;
+        match source.step(next) {
+            Step::Leaf(leaf) => push_part(stack, Part::Leaf(leaf))?,
+            Step::Branch(later) => {
+                let part = walk_branch(scope, source, memo, draft, stack, next, later)?;
+                push_part(stack, part)?;
+            }
+        }
     }
     let part = join_rest(draft, slot, stack, start)?;
     stack.truncate(start);
-    memo.keep(state, part)?;
+    memo.keep(state, hash, part)?;
     Ok(part)
 }
 

@@ -1,7 +1,9 @@
 pub mod CofactorLemmas
 pub mod PairLemmas
 pub mod FixedLemmas
+pub mod FixedPairLemmas
 pub mod SumLemmas
+pub mod RowLemmas
 pub mod SelectLemmas
 pub mod BranchLemmas
 pub mod RenamedLemmas

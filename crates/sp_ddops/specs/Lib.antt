@@ -1,6 +1,7 @@
 pub mod Cofactors
 pub mod Pairs
 pub mod Fixed
+pub mod FixedPairs
 pub mod Rows
 pub mod Selected
 pub mod Renamed

@@ -1,13 +1,14 @@
 //! A function where one slot has a fixed value, and sums over a slot's values.
 ghost use Rattle.std.specs.Prelude.{◌≡◌, ◌<◌, ◌≤◌, ◌^◌, length, unsigned_abs, IfOk};
 ghost use Rattle.sp_dd.specs.Func.{Everywhere, size_of};
-ghost use Rattle.sp_dd.specs.Operations.{restricted, summed_out, weighed_out};
+ghost use Rattle.sp_dd.specs.Operations.{restricted, summed_out, weighed_out, IsRow};
 ghost use Rattle.sp_dd.specs.Ordered.{height};
 ghost use Rattle.sp_ddops.specs.Cofactors.{slot_or};
 ghost use Rattle.sp_dd.specs.Floors.{ticks};
 ghost use Rattle.sp_ddops.specs.Fixed.{fixed_part, IsFixedPart, product_along};
 
 use crate::cofactor::cofactor;
+use crate::fixed_pairs::combined_at;
 use crate::pairs::{Op, combined};
 use sp_dd::{Choice, Diagram, NoMemory, Nodes, Part, Scope, Source, State, Step};
 use std::alloc::Global;
@@ -32,6 +33,10 @@ impl<'a> Source for Fixed<'a> {
 
     ghost height = { λ x q. height q.left };
 
+    fn room(&self) -> usize {
+        self.nodes.len()
+    }
+
     fn step(&self, state: State) -> Step {
         match state.left {
             Part::Leaf(value) => Step::Leaf(value),
@@ -55,8 +60,13 @@ pub fn restrict(alloc: Global, f: &Diagram, slot: u64, value: u64) -> Result<Dia
     requires value { value < size_of f.now.shape slot }
     ensures { IfOk result (λ r. r ≡ restricted f.now slot value) }
 {
+    let scope = f.scope();
+    if !f.depends(slot) {
+        let same = f.copied(alloc)?;
+        return Ok(same);
+    }
     let source = Fixed {
-        scope: f.scope(),
+        scope,
         nodes: f.nodes(),
         at: slot,
         value,
@@ -66,7 +76,7 @@ pub fn restrict(alloc: Global, f: &Diagram, slot: u64, value: u64) -> Result<Dia
         right: Part::Leaf(0),
         choice: Choice::Open,
     };
-    let made = Diagram::from_source(alloc, f.scope(), &source, start)?;
+    let made = Diagram::from_source(alloc, scope, &source, start)?;
     Ok(made)
 }
 
@@ -77,30 +87,47 @@ pub fn sum_out(alloc: Global, f: &Diagram, slot: u64) -> Result<Diagram, NoMemor
     ensures { IfOk result (λ r. r ≡ summed_out f.now slot) }
 {
     let scope = *f.scope();
-    let mut total = restrict(alloc, f, slot, 0)?;
-    for value in 1..scope.size(slot) {
-        let part = restrict(alloc, f, slot, value)?;
-        total = combined(alloc, Op::Add, &total, &part)?;
+    if !f.depends(slot) {
+        let all = combined(alloc, Op::Times(scope.size(slot) as i128), f, f)?;
+        return Ok(all);
+    }
+    if scope.size(slot) < 2 {
+        let only = restrict(alloc, f, slot, 0)?;
+        return Ok(only);
+    }
+    let mut total = combined_at(alloc, Op::Add, f, f, slot, 0, 1)?;
+    for value in 2..scope.size(slot) {
+        total = combined_at(alloc, Op::Add, &total, f, slot, 0, value)?;
     }
     Ok(total)
 }
 
-/// The floor of the mean over a slot's values, by the weights of `p` in ticks. Where `f` doesn't depend on the slot and the
-/// weights of each row sum to one, that is `f` itself.
+/// The floor of the mean over a slot's values, by the weights of `p` in ticks. Where `f` doesn't depend on the slot, that is
+/// `f` itself.
 pub fn weigh_out(alloc: Global, f: &Diagram, slot: u64, p: &Diagram) -> Result<Diagram, NoMemory>
     requires scopes { f.now.shape ≡ p.now.shape }
     requires slot { slot < length f.now.shape.sizes }
     requires small { Everywhere f.now (λ v. unsigned_abs v ≤ 2 ^ 62) }
-    requires weights { Everywhere p.now (λ v. unsigned_abs v ≤ ticks) }
+    requires row { IsRow p.now slot }
     ensures { IfOk result (λ r. r ≡ weighed_out f.now slot p.now) }
 {
     let scope = *f.scope();
+    if !f.depends(slot) {
+        let same = f.copied(alloc)?;
+        return Ok(same);
+    }
+    let last = scope.size(slot) - 1;
     let mut total = product_at(alloc, f, slot, p, 0)?;
-    for value in 1..scope.size(slot) {
+    if last == 0 {
+        let only = combined(alloc, Op::Floor, &total, &total)?;
+        return Ok(only);
+    }
+    for value in 1..last {
         let part = product_at(alloc, f, slot, p, value)?;
         total = combined(alloc, Op::Add, &total, &part)?;
     }
-    let made = combined(alloc, Op::Floor, &total, &total)?;
+    let part = product_at(alloc, f, slot, p, last)?;
+    let made = combined(alloc, Op::SumFloor, &total, &part)?;
     Ok(made)
 }
 
@@ -120,8 +147,6 @@ fn product_at(
     ensures { IfOk result (λ r. r ≡ product_along f.now slot p.now value) }
 {
     let _ = f.scope();
-    let value_part = restrict(alloc, f, slot, value)?;
-    let weight = restrict(alloc, p, slot, value)?;
-    let made = combined(alloc, Op::Product, &weight, &value_part)?;
+    let made = combined_at(alloc, Op::Product, p, f, slot, value, value)?;
     Ok(made)
 }

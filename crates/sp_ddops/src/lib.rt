@@ -6,6 +6,7 @@
 mod bounds;
 mod cofactor;
 mod fixed;
+mod fixed_pairs;
 mod pairs;
 mod renamed;
 mod rows;

@@ -30,6 +30,10 @@ impl<'a> Source for Select<'a> {
 
     ghost height = { λ x q. select_height q };
 
+    fn room(&self) -> usize {
+        self.left.len().saturating_add(self.right.len())
+    }
+
     fn step(&self, state: State) -> Step {
         match state.choice {
             Choice::Open => {

@@ -26,8 +26,10 @@ pub fn dot(alloc: Global, w: &Diagram, f: &Diagram) -> Result<i128, NoMemory>
         right: f.root(),
         choice: Choice::Open,
     };
-    let mut memo = Memo::new(alloc)?;
-    let total = sum_from(w.scope(), w.nodes(), f.nodes(), &mut memo, start, 0)?;
+    let left = w.nodes();
+    let right = f.nodes();
+    let mut memo = Memo::new(alloc, left.len().max(right.len()))?;
+    let total = sum_from(w.scope(), left, right, &mut memo, start, 0)?;
     Ok(total)
 }
 
@@ -54,7 +56,8 @@ fn sum_from(
         let product = leaf_in(state.left) * leaf_in(state.right);
         return Ok(times_skipped(scope, product, from, slot));
     }
-    if let Some(part) = memo.find(&state) {
+    let hash = state.hash();
+    if let Some(part) = memo.find(&state, hash) {
         let known = leaf_in(part);
         return Ok(times_skipped(scope, known, from, slot));
     }
@@ -64,7 +67,7 @@ fn sum_from(
         let part = sum_from(scope, left, right, memo, next, slot + 1)?;
         sum += part;
     }
-    memo.keep(state, Part::Leaf(sum))?;
+    memo.keep(state, hash, Part::Leaf(sum))?;
     Ok(times_skipped(scope, sum, from, slot))
 }
 

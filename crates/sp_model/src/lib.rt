@@ -21,5 +21,5 @@ pub use names::Name;
 pub use parts::{ActionPart, Actions, Decl, Decls, Factor, Factors, Funcs, Names, Parts};
 pub use sequence::Sequence;
 // The two lines that name how functions are stored.
-pub use sp_table as functions;
-pub use sp_table::Table as Func;
+pub use sp_dd::Diagram as Func;
+pub use sp_ddops as functions;

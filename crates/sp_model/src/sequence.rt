@@ -30,6 +30,20 @@ impl<T> Sequence<T> {
         }
     }
 
+    /// The list of these items. Takes no memory.
+    pub fn from_vec(items: Vec<T>) -> Sequence<T>
+        ensures { result ≡ items.items }
+    {
+        Sequence { items }
+    }
+
+    /// The items. Takes no memory.
+    pub fn into_vec(self) -> Vec<T>
+        ensures { result.items ≡ self }
+    {
+        self.items
+    }
+
     /// How many items there are.
     pub fn len(&self) -> u64
         ensures { result ≡ length self.now }

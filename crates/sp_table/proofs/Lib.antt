@@ -7,3 +7,4 @@ pub mod BranchLemmas
 pub mod CompareLemmas
 pub mod WholeLemmas
 pub mod DiagonalLemmas
+pub mod RowLemmas

@@ -5,7 +5,7 @@ ghost use Rattle.std.specs.List.{range_with_len};
 ghost use Rattle.sp_dd.specs.Floors.{sum_to, ticks, weighed};
 ghost use Rattle.sp_dd.specs.Points.{product, point_at};
 ghost use Rattle.sp_dd.specs.Func.{Everywhere, size_of, value_of};
-ghost use Rattle.sp_dd.specs.Operations.{summed_out, weighed_out, restricted};
+ghost use Rattle.sp_dd.specs.Operations.{summed_out, weighed_out, IsRow, restricted};
 ghost use Rattle.sp_table.specs.Widths.{AreWidths};
 
 use crate::Table;
@@ -38,7 +38,7 @@ pub fn weigh_out(alloc: Global, f: &Table, slot: u64, p: &Table) -> Result<Table
     requires scopes { f.now.shape ≡ p.now.shape }
     requires slot { slot < length f.now.shape.sizes }
     requires small { Everywhere f.now (λ v. unsigned_abs v ≤ 2 ^ 62) }
-    requires weights { Everywhere p.now (λ v. unsigned_abs v ≤ ticks) }
+    requires row { IsRow p.now slot }
     ensures { IfOk result (λ r. r ≡ weighed_out f.now slot p.now) }
 {
     let size = f.scope().size(slot) as usize;

@@ -1,20 +1,25 @@
 -- The table: what one cause bars of the others.
-use Rattle.std.proofs.Common.{◌≡◌, ℕ, ◌+◌, ◌<◌, ◌≤◌, List, [], ◌∷◌, length, Option, Some, None, Result, refl, sym, ◌∙◌, Contains, arith, replicate, OnOk, OnErr, Ok, Err, inl, inr}
+use Rattle.std.proofs.Common.{◌≡◌, ℕ, ◌+◌, ◌<◌, ◌≤◌, List, [], ◌∷◌, length, Option, Some, None, Result, refl, sym, ◌∙◌, Contains, arith, replicate, OnOk, OnErr, Ok, Err, inl, inr, codes}
 use Rattle.std.proofs.lemmas.List.{append-nil, length-replicate}
 use Rattle.sp_outside.specs.Folder.{Folder}
 use Rattle.sp_outside.specs.Written.{Written}
 use Rattle.sp_outside.specs.Counts.{HasCause}
 use Rattle.sp_outside.specs.Bytes.{Appended, AppendedPart}
-use Rattle.sp_tool.specs.Jobs.{Job, plan, Asks, names}
-use Rattle.sp_tool.specs.Words.{Plan}
-use Rattle.sp_tool.specs.Table.{model_limit, Allows, Refuses, Declines, Told, Saw, Holds, Call, Cause, Tells, NoFault, Answers}
+use Rattle.sp_model.specs.declared.parts.Parts.{Parts}
+use Rattle.sp_gen.specs.Models.{generated_text}
+use Rattle.sp_words.specs.declared.job.PlanWords.{PlanWords}
+use Rattle.sp_words.specs.declared.job.Job.{Job}
+use Rattle.sp_words.specs.declared.job.Job.TheVariants.{Plan, Check, Gen, Trial}
+use Rattle.sp_words.specs.Jobs.{Asks}
+use Rattle.sp_tool.specs.Texts.{check_line, IsPlanText}
+use Rattle.sp_tool.specs.Table.{model_limit, names, Accepts, TellsFault, Bars, Allows, Refuses, Told, Saw, Holds, Call, Cause, Tells, NoFault, Answers}
 use Rattle.sp_tool.specs.declared.status.Status.{Status}
 use Rattle.sp_tool.specs.declared.status.Status.TheVariants.{Done, Refused, Usage, NoMemory, ReadFault, WriteFault}
-use Rattle.sp_tool.specs.Faults.{status_of, line_of, Hinders, Bars}
+use Rattle.sp_tool.specs.Faults.{status_of, line_of, TellsRefusal, HindersFile, Hinders}
 use Rattle.sp_tool.specs.declared.fault.Fault.{Fault}
 use Rattle.sp_tool.specs.declared.fault.Fault.TheVariants as Faults
-use Rattle.sp_tool.proofs.JobLemmas.{same_job}
-use Rattle.sp_tool.proofs.SourceLemmas.{not_faulty}
+use Rattle.sp_words.proofs.OneJob.{same_job}
+use Rattle.sp_reader.proofs.SourceLemmas.{not_refused}
 
 -- some content that is as told and longer than the limit
 pub some_longer : (content : Option (List ℕ)) (limit : ℕ) → ((bytes : List ℕ) → content ≡ Some bytes → limit < length bytes) → (bytes : List ℕ) × Told content bytes × (limit < length bytes)
@@ -30,28 +35,47 @@ tells line err gone (Err x) whole part cause = record { part = inr part; whole =
 pub tells_nothing : (err : Written) → Tells [] err err
 tells_nothing err = record { part = inl (λ b e. rw append-nil e); whole = λ still b e. rw append-nil e }
 
--- a job has read one file where its files are accepted or refused
-allowed_length : (job : Job) (files : List (List ℕ)) (text : List ℕ) → Allows job files text → length files ≡ 1
-allowed_length (plan p) [] text may = elim may [ ]
-allowed_length (plan p) (source ∷ []) text may = refl
-allowed_length (plan p) (source ∷ (next ∷ more)) text may = elim may [ ]
+-- a job has read the files that it names where its files are accepted or refused
+allowed_length : (job : Job) (files : List (List ℕ)) (text : List ℕ) → Allows job files text → length files ≡ length (names job)
+allowed_length (Plan p) [] text may = elim may [ ]
+allowed_length (Plan p) (source ∷ []) text may = refl
+allowed_length (Plan p) (source ∷ (next ∷ more)) text may = elim may [ ]
+allowed_length (Check name) [] text may = elim may [ ]
+allowed_length (Check name) (source ∷ []) text may = refl
+allowed_length (Check name) (source ∷ (next ∷ more)) text may = elim may [ ]
+allowed_length (Gen number) [] text may = refl
+allowed_length (Gen number) (source ∷ more) text may = elim may [ ]
+allowed_length (Trial number) [] text may = refl
+allowed_length (Trial number) (source ∷ more) text may = elim may [ ]
 
-refused_length : (job : Job) (files : List (List ℕ)) (line : List ℕ) → Refuses job files line → length files ≡ 1
-refused_length (plan p) [] line bars = elim bars [ ]
-refused_length (plan p) (source ∷ []) line bars = refl
-refused_length (plan p) (source ∷ (next ∷ more)) line bars = elim bars [ ]
+refused_length : (job : Job) (files : List (List ℕ)) (line : List ℕ) → Refuses job files line → length files ≡ length (names job)
+refused_length (Plan p) [] line bars = elim bars [ ]
+refused_length (Plan p) (source ∷ []) line bars = refl
+refused_length (Plan p) (source ∷ (next ∷ more)) line bars = elim bars [ ]
+refused_length (Check name) [] line bars = elim bars [ ]
+refused_length (Check name) (source ∷ []) line bars = refl
+refused_length (Check name) (source ∷ (next ∷ more)) line bars = elim bars [ ]
+refused_length (Gen number) [] line bars = elim bars [ ]
+refused_length (Gen number) (source ∷ more) line bars = elim bars [ ]
+refused_length (Trial number) [] line bars = refl
+refused_length (Trial number) (source ∷ more) line bars = elim bars [ ]
 
-declined_length : (job : Job) (files : List (List ℕ)) (line : List ℕ) → Declines job files line → length files ≡ 1
-declined_length (plan p) [] line bars = elim bars [ ]
-declined_length (plan p) (source ∷ []) line bars = refl
-declined_length (plan p) (source ∷ (next ∷ more)) line bars = elim bars [ ]
+-- what is accepted isn't refused
+not_barred : (file source line : List ℕ) (P : Parts → Type 0) → Accepts source P → Bars file source line → ⊥
+not_barred file source line P may (inl long) = omega (arith, long.0, may.0)
+not_barred file source line P may (inr told) = not_refused source may.1.0 told.1.0 told.1.1.0 may.1.1 told.1.1.1
 
--- what is allowed isn't refused
 not_both : (job : Job) (files : List (List ℕ)) (line text : List ℕ) → Allows job files text → Refuses job files line → ⊥
-not_both (plan p) (source ∷ []) line text may (inl long) = omega (arith, long.0, may.0)
-not_both (plan p) (source ∷ []) line text may (inr form) = not_faulty source may.1.0 form.1.0 form.1.1.0 may.1.1 form.1.1.1
-not_both (plan p) [] line text may bars = elim may [ ]
-not_both (plan p) (source ∷ (next ∷ more)) line text may bars = elim may [ ]
+not_both (Plan p) [] line text may bars = elim may [ ]
+not_both (Plan p) (source ∷ []) line text may bars = not_barred p.model source line (λ model. IsPlanText model p text) may bars
+not_both (Plan p) (source ∷ (next ∷ more)) line text may bars = elim may [ ]
+not_both (Check name) [] line text may bars = elim may [ ]
+not_both (Check name) (source ∷ []) line text may bars = not_barred name source line (λ model. text ≡ check_line model) may bars
+not_both (Check name) (source ∷ (next ∷ more)) line text may bars = elim may [ ]
+not_both (Gen number) [] line text may bars = elim bars [ ]
+not_both (Gen number) (source ∷ more) line text may bars = elim bars [ ]
+not_both (Trial number) [] line text may bars = not_refused (generated_text number) may.0 bars.0 bars.1.0 may.1 bars.1.1
+not_both (Trial number) (source ∷ more) line text may bars = elim may [ ]
 
 -- the bytes of the files as they are told are those that were seen
 same_files : (store : Folder) (names held seen : List (List ℕ)) → Holds store names held → Saw store names seen → length held ≡ length seen → held ≡ seen
@@ -98,11 +122,11 @@ module _ (c : Call) where
     refused_of why line ReadFault cause bars = (1, omega arith, refl)
     refused_of why line WriteFault cause bars = absurd (held_refused c.store job cause.0 files cause.2.0 why cause.2.2.0 (same_job c.words job cause.0 asks cause.1) holds cause.2.1 bars cause.2.2.1)
 
-    complete_of : (text line : List ℕ) (status : Status) → Cause c status line → Allows job files text → NoFault c job → Contains (Done ∷ Refused ∷ NoMemory ∷ []) status
+    complete_of : (text line : List ℕ) (status : Status) → Cause c status line → Allows job files text → NoFault c job → Contains (Done ∷ NoMemory ∷ []) status
     complete_of text line Done cause may still = (0, omega arith, refl)
-    complete_of text line Refused cause may still = (1, omega arith, refl)
+    complete_of text line Refused cause may still = absurd (held_allowed c.store job cause.0 files cause.2.0 line text (same_job c.words job cause.0 asks cause.1) holds cause.2.1 may cause.2.2)
     complete_of text line Usage cause may still = absurd (cause.0 job asks)
-    complete_of text line NoMemory cause may still = (2, omega arith, refl)
+    complete_of text line NoMemory cause may still = (1, omega arith, refl)
     complete_of text line ReadFault cause may still =
         let same = same_job c.words job cause.0 asks cause.1 in
         let named : Contains (names job) cause.2.0 = rw same cause.2.1 in
@@ -145,11 +169,33 @@ ends words store later out end err gone fault line status r cause e s whole part
     let cause' : Cause (record { words = words; store = store; later = later; out = out; end = end }) status line = rw (e, s) cause in
     answers (record { words = words; store = store; later = later; out = out; end = end }) err gone status line cause' (tells line err gone r whole part risen) (λ done. absurd (not_done fault (sym s ∙ done)))
 
--- what bars a text hinders the plan of the model whose bytes it is
-pub barred : (store later : Folder) (p : Plan) (source : List ℕ) (fault : Fault) → Told (store.content p.model) source → length source ≤ model_limit → Bars p.model source fault → Hinders (plan p) store later fault
-barred store later p source Faults.NoMemory told fits bars = tt
-barred store later p source (Faults.Refused line) told fits (inl faulty) = (source ∷ [], (told, tt), inl (inr (fits, faulty)))
-barred store later p source (Faults.Refused line) told fits (inr declined) = (source ∷ [], (told, tt), inr (fits, declined))
-barred store later p source (Faults.ReadFault line) told fits bars = elim bars [ ]
-barred store later p source Faults.Usage told fits bars = elim bars [ ]
-barred store later p source Faults.WriteFault told fits bars = elim bars [ ]
+-- what hinders the model of a file hinders the job that names it
+pub plan_hindered : (p : PlanWords) (store later : Folder) (fault : Fault) → HindersFile p.model store later fault → Hinders (Plan p) store later fault
+plan_hindered p store later Faults.NoMemory h = tt
+plan_hindered p store later (Faults.Refused line) h = (h.0 ∷ [], (h.1, tt), h.2)
+plan_hindered p store later (Faults.ReadFault line) h = (p.model, (0, omega arith, refl), h.0, h.1)
+plan_hindered p store later Faults.Usage h = elim h [ ]
+plan_hindered p store later Faults.WriteFault h = elim h [ ]
+
+pub check_hindered : (name : List ℕ) (store later : Folder) (fault : Fault) → HindersFile name store later fault → Hinders (Check name) store later fault
+check_hindered name store later Faults.NoMemory h = tt
+check_hindered name store later (Faults.Refused line) h = (h.0 ∷ [], (h.1, tt), h.2)
+check_hindered name store later (Faults.ReadFault line) h = (name, (0, omega arith, refl), h.0, h.1)
+check_hindered name store later Faults.Usage h = elim h [ ]
+check_hindered name store later Faults.WriteFault h = elim h [ ]
+
+-- a generated text that is refused hinders its trial
+pub trial_hindered : (number : ℕ) (source : List ℕ) (store later : Folder) (fault : Fault) → source ≡ generated_text number → TellsRefusal (codes "generated") source fault → Hinders (Trial number) store later fault
+trial_hindered number source store later Faults.NoMemory is h = tt
+trial_hindered number source store later (Faults.Refused line) is h = ([], tt, rw is at h)
+trial_hindered number source store later (Faults.ReadFault line) is h = elim h [ ]
+trial_hindered number source store later Faults.Usage is h = elim h [ ]
+trial_hindered number source store later Faults.WriteFault is h = elim h [ ]
+
+-- what refuses the bytes of a file hinders its model
+pub file_hindered : (file source : List ℕ) (store later : Folder) (fault : Fault) → Told (store.content file) source → length source ≤ model_limit → TellsRefusal file source fault → HindersFile file store later fault
+file_hindered file source store later Faults.NoMemory told fits h = tt
+file_hindered file source store later (Faults.Refused line) told fits h = (source, told, inr (fits, h))
+file_hindered file source store later (Faults.ReadFault line) told fits h = elim h [ ]
+file_hindered file source store later Faults.Usage told fits h = elim h [ ]
+file_hindered file source store later Faults.WriteFault told fits h = elim h [ ]

@@ -2,11 +2,9 @@
 use Rattle.std.specs.Prelude.{◌≡◌, ℕ, List, codes, Contains, string_bytes, ⊤, ◌⊎◌}
 use Rattle.sp_outside.specs.Folder.{Folder}
 use Rattle.sp_outside.specs.Counts.{Rose}
-use Rattle.sp_syntax.specs.declared.text.Text.{Text}
-use Rattle.sp_tool.specs.Jobs.{Job, names}
-use Rattle.sp_tool.specs.Lines.{usage_line, no_memory_line, cannot_write_line, cannot_read_line, refused_line}
-use Rattle.sp_tool.specs.Table.{Saw, Refuses, Declines}
-use Rattle.sp_tool.specs.Sources.{IsTreeOf, IsFaulty}
+use Rattle.sp_words.specs.declared.job.Job.{Job}
+use Rattle.sp_tool.specs.Lines.{usage_line, no_memory_line, cannot_write_line, cannot_read_line}
+use Rattle.sp_tool.specs.Table.{names, Told, Saw, Bars, Refuses, TellsFault}
 use Rattle.sp_tool.specs.declared.status.Status.{Status}
 use Rattle.sp_tool.specs.declared.status.Status.TheVariants as Ended
 use Rattle.sp_tool.specs.declared.fault.Fault.{Fault}
@@ -24,23 +22,31 @@ status_of WriteFault = Ended.WriteFault
 abbrev pub line_of : Fault → List ℕ
 line_of Usage = usage_line
 line_of NoMemory = no_memory_line
-line_of (Refused line) = string_bytes line
+line_of (Refused line) = line.items
 line_of (ReadFault line) = string_bytes line
 line_of WriteFault = cannot_write_line
+
+-- why these bytes of a file are no model
+abbrev pub TellsRefusal : List ℕ → List ℕ → Fault → Type 0
+TellsRefusal file source NoMemory = ⊤
+TellsRefusal file source (Refused line) = TellsFault file source line.items
+TellsRefusal file source (ReadFault line) = ⊥
+TellsRefusal file source Usage = ⊥
+TellsRefusal file source WriteFault = ⊥
+
+-- why the model of a file isn't there
+abbrev pub HindersFile : List ℕ → Folder → Folder → Fault → Type 0
+HindersFile file store later NoMemory = ⊤
+HindersFile file store later (Refused line) = (source : List ℕ) × Told (store.content file) source × Bars file source line.items
+HindersFile file store later (ReadFault line) = Rose (store.faults file) (later.faults file) × (string_bytes line ≡ cannot_read_line file)
+HindersFile file store later Usage = ⊥
+HindersFile file store later WriteFault = ⊥
 
 -- why a job has no text
 abbrev pub Hinders : Job → Folder → Folder → Fault → Type 0
 Hinders job store later NoMemory = ⊤
-Hinders job store later (Refused line) =
-    (files : List (List ℕ)) × Saw store (names job) files × (Refuses job files (string_bytes line) ⊎ Declines job files (string_bytes line))
+Hinders job store later (Refused line) = (files : List (List ℕ)) × Saw store (names job) files × Refuses job files line.items
 Hinders job store later (ReadFault line) =
     (name : List ℕ) × Contains (names job) name × Rose (store.faults name) (later.faults name) × (string_bytes line ≡ cannot_read_line name)
-Hinders job store later fault = ⊥
-
--- why the bytes of a model file give no text
-abbrev pub Bars : List ℕ → List ℕ → Fault → Type 0
-Bars file source NoMemory = ⊤
-Bars file source (Refused line) =
-    ((at : ℕ) × ((kind : List ℕ) × IsFaulty source at kind × (string_bytes line ≡ refused_line file at kind)))
-    ⊎ ((tree : Text) × IsTreeOf source tree × (string_bytes line ≡ refused_line file 0 (codes "NotBuilt")))
-Bars file source fault = ⊥
+Hinders job store later Usage = ⊥
+Hinders job store later WriteFault = ⊥

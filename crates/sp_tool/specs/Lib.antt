@@ -1,12 +1,5 @@
-pub mod Words
-pub mod Pieces
-pub mod Jobs
 pub mod Statuses
 pub mod Lines
-pub mod Counts
-pub mod PlanText
-pub mod Events
-pub mod Sources
+pub mod Texts
 pub mod Table
 pub mod Faults
-pub mod Scopes

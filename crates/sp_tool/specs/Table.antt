@@ -4,11 +4,14 @@ use Rattle.sp_outside.specs.Folder.{Folder}
 use Rattle.sp_outside.specs.Written.{Written}
 use Rattle.sp_outside.specs.Counts.{Rose}
 use Rattle.sp_outside.specs.Bytes.{Appended, AppendedPart, IfTold}
-use Rattle.sp_syntax.specs.declared.text.Text.{Text}
-use Rattle.sp_tool.specs.Jobs.{Job, plan, Asks, names}
+use Rattle.sp_model.specs.declared.parts.Parts.{Parts}
+use Rattle.sp_gen.specs.Models.{generated_text}
+use Rattle.sp_reader.specs.Sources.{Reads, IsFaulty}
+use Rattle.sp_words.specs.declared.job.Job.{Job}
+use Rattle.sp_words.specs.declared.job.Job.TheVariants.{Plan, Check, Gen, Trial}
+use Rattle.sp_words.specs.Jobs.{Asks}
 use Rattle.sp_tool.specs.Lines.{usage_line, no_memory_line, cannot_write_line, cannot_read_line, too_long_line, refused_line}
-use Rattle.sp_tool.specs.PlanText.{IsOneStage}
-use Rattle.sp_tool.specs.Sources.{IsTreeOf, IsFaulty}
+use Rattle.sp_tool.specs.Texts.{check_line, IsPlanText, IsTrialText}
 use Rattle.sp_tool.specs.declared.status.Status.{Status}
 use Rattle.sp_tool.specs.declared.status.Status.TheVariants.{Done, Refused, Usage, NoMemory, ReadFault, WriteFault}
 
@@ -16,24 +19,41 @@ use Rattle.sp_tool.specs.declared.status.Status.TheVariants.{Done, Refused, Usag
 abbrev pub model_limit : ℕ
 model_limit = 16777216
 
+-- the files that a job names, in the order in which they are read
+abbrev pub names : Job → List (List ℕ)
+names (Plan p) = p.model ∷ []
+names (Check model) = model ∷ []
+names (Gen number) = []
+names (Trial number) = []
+
+-- the bytes of a model file are within the limit and mean a model of which this holds
+abbrev pub Accepts : List ℕ → (Parts → Type 0) → Type 0
+Accepts source P = (length source ≤ model_limit) × ((model : Parts) × Reads source model × P model)
+
+-- the bytes are refused at a byte for a reason, which the line tells
+abbrev pub TellsFault : List ℕ → List ℕ → List ℕ → Type 0
+TellsFault file source line = (at : ℕ) × ((kind : List ℕ) × IsFaulty source at kind × (line ≡ refused_line file at kind))
+
+-- the bytes of a model file are too long, or refused
+abbrev pub Bars : List ℕ → List ℕ → List ℕ → Type 0
+Bars file source line =
+    ((model_limit < length source) × (line ≡ too_long_line file model_limit))
+    ⊎ ((length source ≤ model_limit) × TellsFault file source line)
+
 -- for these bytes of its files a job may write this text
 abbrev pub Allows : Job → List (List ℕ) → List ℕ → Type 0
-Allows (plan p) (source ∷ []) text =
-    (length source ≤ model_limit) × ((tree : Text) × IsTreeOf source tree × ((action : ℕ) × ((links : List ℕ) × IsOneStage tree text action links)))
-Allows (plan p) files text = ⊥
+Allows (Plan p) (source ∷ []) text = Accepts source (λ model. IsPlanText model p text)
+Allows (Check name) (source ∷ []) text = Accepts source (λ model. text ≡ check_line model)
+Allows (Gen number) [] text = text ≡ generated_text number
+Allows (Trial number) [] text = (model : Parts) × Reads (generated_text number) model × IsTrialText model number text
+Allows job files text = ⊥
 
--- the last of these bytes is too long, or at fault by its tokens or its grammar, which this line tells
+-- the last of these bytes is refused, which this line tells; for a trial it is the generated text
 abbrev pub Refuses : Job → List (List ℕ) → List ℕ → Type 0
-Refuses (plan p) (source ∷ []) line =
-    ((model_limit < length source) × (line ≡ too_long_line p.model model_limit))
-    ⊎ ((length source ≤ model_limit) × ((at : ℕ) × ((kind : List ℕ) × IsFaulty source at kind × (line ≡ refused_line p.model at kind))))
-Refuses (plan p) files line = ⊥
-
--- the last of these bytes is of the grammar, and this line tells that such a model isn't planned for yet
-abbrev pub Declines : Job → List (List ℕ) → List ℕ → Type 0
-Declines (plan p) (source ∷ []) line =
-    (length source ≤ model_limit) × ((tree : Text) × IsTreeOf source tree × (line ≡ refused_line p.model 0 (codes "NotBuilt")))
-Declines (plan p) files line = ⊥
+Refuses (Plan p) (source ∷ []) line = Bars p.model source line
+Refuses (Check name) (source ∷ []) line = Bars name source line
+Refuses (Trial number) [] line = TellsFault (codes "generated") (generated_text number) line
+Refuses job files line = ⊥
 
 -- where the store tells a content, it is this
 abbrev pub Told : Option (List ℕ) → List ℕ → Type 0
@@ -44,6 +64,10 @@ abbrev pub Saw : Folder → List (List ℕ) → List (List ℕ) → Type 0
 Saw store names [] = ⊤
 Saw store [] (bytes ∷ files) = ⊥
 Saw store (name ∷ names) (bytes ∷ files) = Told (store.content name) bytes × Saw store names files
+
+-- a text that the job may write for bytes of its files, which are what the store tells where it does
+abbrev pub IsText : Folder → Job → List ℕ → Type 0
+IsText store job text = (files : List (List ℕ)) × Saw store (names job) files × Allows job files text
 
 -- the store tells these bytes of the first of these names
 abbrev pub Holds : Folder → List (List ℕ) → List (List ℕ) → Type 0
@@ -67,7 +91,7 @@ Cause c Done line =
     × ((text : List ℕ) × Allows job files text × Appended c.out.bytes c.end.bytes text × (line ≡ [])))
 Cause c Refused line =
     (job : Job) × Asks c.words job
-    × ((files : List (List ℕ)) × Saw c.store (names job) files × (Refuses job files line ⊎ Declines job files line) × (c.end ≡ c.out))
+    × ((files : List (List ℕ)) × Saw c.store (names job) files × Refuses job files line × (c.end ≡ c.out))
 Cause c Usage line =
     ((job : Job) → ¬ (Asks c.words job)) × (line ≡ usage_line) × (c.later ≡ c.store) × (c.end ≡ c.out)
 Cause c NoMemory line = (line ≡ no_memory_line) × (c.end ≡ c.out)
@@ -91,7 +115,7 @@ pub record NoFault (c : Call) (job : Job) : Type 0 where
   pub reads : (name : List ℕ) → Contains (names job) name → ¬ (Rose (c.store.faults name) (c.later.faults name))
   pub writes : ¬ (Rose c.out.faults c.end.faults)
 
--- a status of which each has its cause, and which is one that words and files ask for
+-- a status that has its cause, and that is one which words and files ask for
 pub record Answers (c : Call) (err gone : Written) (status : Status) : Type 0 where
   pub cause : (line : List ℕ) × Cause c status line × Tells line err gone
   pub quiet : status ≡ Done → gone ≡ err
@@ -99,4 +123,4 @@ pub record Answers (c : Call) (err gone : Written) (status : Status) : Type 0 wh
   pub refused : (job : Job) (files : List (List ℕ)) (line : List ℕ) → Asks c.words job → Holds c.store (names job) files
       → Refuses job files line → Contains (Refused ∷ ReadFault ∷ NoMemory ∷ []) status
   pub complete : (job : Job) (files : List (List ℕ)) (text : List ℕ) → Asks c.words job → Holds c.store (names job) files
-      → Allows job files text → NoFault c job → Contains (Done ∷ Refused ∷ NoMemory ∷ []) status
+      → Allows job files text → NoFault c job → Contains (Done ∷ NoMemory ∷ []) status

@@ -4,6 +4,7 @@ ghost use Rattle.std.specs.Prelude.{◌≡◌};
 ghost use Rattle.sp_tool.specs.Faults.{status_of, line_of};
 
 use crate::status::Status;
+use sp_dd::NoMemory;
 use std::alloc::AllocError;
 
 /// Why a call isn't done, with the line that is told.
@@ -11,7 +12,8 @@ use std::alloc::AllocError;
 pub enum Fault {
     Usage,
     NoMemory,
-    Refused(String),
+    /// The line may hold any bytes of the file's names.
+    Refused(Vec<u8>),
     ReadFault(String),
     WriteFault,
 }
@@ -22,6 +24,16 @@ impl From<AllocError> for Fault {
     ghost from_gives = { λ _ e. e ≡ Fault.NoMemory };
 
     fn from(_: AllocError) -> Self {
+        Fault::NoMemory
+    }
+}
+
+impl From<NoMemory> for Fault {
+    ghost use Rattle.sp_tool.specs.declared.fault.Fault.{Fault};
+
+    ghost from_gives = { λ _ e. e ≡ Fault.NoMemory };
+
+    fn from(_: NoMemory) -> Self {
         Fault::NoMemory
     }
 }
@@ -41,15 +53,16 @@ impl Fault {
     }
 
     /// The line that is told.
-    pub fn line(&self) -> &str
+    pub fn line(&self) -> &[u8]
         ensures { result.now ≡ line_of self.now }
     {
         match self {
             Fault::Usage =>
-                "perseus: usage: perseus plan MODEL --beliefs 1 --depth D --stages 1 --seed S --workers 0\n",
-            Fault::NoMemory => "perseus: out of memory\n",
-            Fault::Refused(line) | Fault::ReadFault(line) => line.as_str(),
-            Fault::WriteFault => "perseus: cannot write\n",
+                b"perseus: usage: perseus plan MODEL --beliefs N --depth D --stages N --seed S --workers 0 [--prune] [--explore uniform|sweep], perseus check MODEL, perseus gen NUMBER, or perseus trial NUMBER\n",
+            Fault::NoMemory => b"perseus: out of memory\n",
+            Fault::Refused(line) => line.as_slice(),
+            Fault::ReadFault(line) => line.as_bytes(),
+            Fault::WriteFault => b"perseus: cannot write\n",
         }
     }
 }

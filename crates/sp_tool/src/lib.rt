@@ -2,14 +2,11 @@
 #![tactic(auto)]
 
 mod fault;
+mod file;
 mod lines;
-mod plan_text;
-mod planner;
-mod reader;
 mod run;
-mod source;
 mod status;
-mod words;
+mod texts;
 
 pub use run::run_plain;
 pub use status::Status;

@@ -6,10 +6,11 @@ ghost use Rattle.sp_tool.specs.Lines.{too_long_line, refused_line, cannot_read_l
 use std::alloc::{AllocError, Global};
 
 /// The line for a file that is longer than its limit.
-pub fn write_too_long_line(alloc: Global, file: &str, limit: u64) -> Result<String, AllocError>
-    ensures { IfOk result (λ s. string_bytes s ≡ too_long_line file.now limit) }
+pub fn write_too_long_line(alloc: Global, file: &str, limit: u64) -> Result<Vec<u8>, AllocError>
+    ensures { IfOk result (λ line. line.items ≡ too_long_line file.now limit) }
 {
-    format!(in alloc; "perseus: refused: {file}: longer than {limit} bytes\n")
+    let line = format!(in alloc; "perseus: refused: {file}: longer than {limit} bytes\n")?;
+    Ok(line.into_bytes())
 }
 
 /// The line for a file that isn't accepted, for what stands at this byte.
@@ -17,11 +18,15 @@ pub fn write_refused_line(
     alloc: Global,
     file: &str,
     at: u64,
-    kind: &str,
-) -> Result<String, AllocError>
-    ensures { IfOk result (λ s. string_bytes s ≡ refused_line file.now at kind.now) }
+    kind: &[u8],
+) -> Result<Vec<u8>, AllocError>
+    ensures { IfOk result (λ line. line.items ≡ refused_line file.now at kind.now) }
 {
-    format!(in alloc; "perseus: refused: {file}: byte {at}: {kind}\n")
+    let front = format!(in alloc; "perseus: refused: {file}: byte {at}: ")?;
+    let mut line = front.into_bytes();
+    line.extend_from_slice(kind)?;
+    line.extend_from_slice(b"\n")?;
+    Ok(line)
 }
 
 /// The line for a file that can't be read.

@@ -1,45 +1,20 @@
-//! The top call on files in memory. The expected texts and lines are written out by hand.
+//! The top call on files in memory. The expected texts and lines were written out by hand, or by a program of another kind that
+//! plans over lists of states.
 
 use super::{Status, run_plain};
+use sp_choose::{Chooser, Sweep, Uniform};
 use sp_dd::Ids;
 use sp_outside::{Files, MemSink, MemStore};
 use std::alloc::{AllocError, Global};
 use std::test::Fail;
 
-/// The tiger problem up to its opening belief: a door hides a tiger, and listening tells it rightly 85 times in 100.
-const DOORS: &str =
-    "(variables (tiger left right)) (observations (hear left right)) init (tiger (left (";
+mod models;
 
-/// Its actions, behind its opening belief and before its discount.
-const ACTIONS: &str = ")))
-action listen observe
-hear (tiger' (left (hear' (left (0.85)) (right (0.15)))) (right (hear' (left (0.15)) (right (0.85)))))
-endobserve cost (tiger (left (1.0)) (right (1.0))) endaction
-action open_left // behind it is the tiger, or a reward
-tiger (tiger (left (tiger' (left (0.5)) (right (0.5)))) (right (tiger' (left (0.5)) (right (0.5))))) observe
-hear (tiger' (left (hear' (left (0.5)) (right (0.5)))) (right (hear' (left (0.5)) (right (0.5)))))
-endobserve cost (tiger (left (100.0)) (right (-10.0))) endaction
-action open_right
-tiger (tiger (left (tiger' (left (0.5)) (right (0.5)))) (right (tiger' (left (0.5)) (right (0.5))))) observe
-hear (tiger' (left (hear' (left (0.5)) (right (0.5)))) (right (hear' (left (0.5)) (right (0.5)))))
-endobserve cost (tiger (left (-10.0)) (right (100.0))) endaction
-discount ";
-
-/// The tiger problem.
-const TIGER: &[&str] = &[DOORS, "0.5)) (right (0.5", ACTIONS, "0.95"];
-
-/// One state and one observation, up to the costs of two actions.
-const PLACE: &str = "(variables (place here)) (observations (sign none)) init (place (here (1)))
-action stay observe sign (place' (here (sign' (none (1.0))))) endobserve cost (place (here (";
-
-/// Between the two costs.
-const NEXT: &str = "))) endaction
-action rest observe sign (place' (here (sign' (none (1.0))))) endobserve cost (place (here (";
-
-/// Behind the two costs.
-const HALF: &str = "))) endaction discount 0.5";
+use models::{ACTIONS, DOORS, HALF, HEARD, HEARS, NEXT, PATH, PLACE, ROBOT, TIGER, WORTH};
 
 const WORDS: &str = "plan m.txt --beliefs 1 --depth 1 --stages 1 --seed 7 --workers 0";
+
+const CHECK: &str = "check m.txt";
 
 /// A call, and what it gives.
 #[derive(Clone, Copy)]
@@ -58,7 +33,7 @@ struct Row {
     line: &'static str,
 }
 
-/// The tiger problem, which is planned for.
+/// The tiger problem, planned for one belief and one stage.
 const LISTENS: Row = Row {
     words: WORDS,
     model: TIGER,
@@ -78,53 +53,98 @@ const REFUSED: Row = Row {
     ..LISTENS
 };
 
-/// A model of the grammar that isn't planned for.
-const NOT_BUILT: Row = Row {
-    line: "perseus: refused: m.txt: byte 0: NotBuilt\n",
-    ..REFUSED
-};
-
 /// Words that are those of no command.
 const USAGE: Row = Row {
     status: 2,
     text: "",
-    line: "perseus: usage: perseus plan MODEL --beliefs 1 --depth D --stages 1 --seed S --workers 0\n",
+    line: "perseus: usage: perseus plan MODEL --beliefs N --depth D --stages N --seed S --workers 0 [--prune] [--explore uniform|sweep], perseus check MODEL, perseus gen NUMBER, or perseus trial NUMBER\n",
     ..LISTENS
 };
 
-const ROWS: [Row; 47] = [
+const ROWS: [Row; 41] = [
     LISTENS,
+    // two stages, with and without pruning; an edition of one member loses none
     Row {
-        words: "plan --workers 0 --seed 18446744073709551615 --stages 1 m.txt --depth 4096 --beliefs 00000000000000000001",
+        words: "plan m.txt --beliefs 1 --depth 1 --stages 2 --seed 7 --workers 0",
+        text: "events 5\nsettle 0 0 0 0 0\npublish\nsettle 0 1 0 1 1\npublish\nend\nsessions 0\ndone\n",
         ..LISTENS
     },
+    Row {
+        words: "plan --prune --stages 2 --explore sweep --seed 7 m.txt --workers 0 --beliefs 1 --depth 1",
+        text: "events 5\nsettle 0 0 0 0 0\npublish\nsettle 0 1 0 1 1\npublish\nend\nsessions 0\ndone\n",
+        ..LISTENS
+    },
+    // a stage in which two vectors enter, of which one is nowhere above the other
+    Row {
+        words: "plan m.txt --beliefs 3 --depth 1 --stages 3 --seed 6 --workers 0 --prune",
+        model: &[PATH],
+        text: "events 9\nsettle 2 0 1 0 0\npublish\nsettle 0 1 0 1 1\nsettle 1 1 1 1 1\npublish\nprune 2 3\nsettle 2 3 1 3 3\npublish\nend\nsessions 0\ndone\n",
+        ..LISTENS
+    },
+    // one state and one observation, three stages
+    Row {
+        words: "plan m.txt --beliefs 1 --depth 1 --stages 3 --seed 7 --workers 0",
+        model: &[PLACE, "-1", NEXT, "-1", HALF],
+        text: "events 7\nsettle 0 0 0 0\npublish\nsettle 0 1 0 1\npublish\nsettle 0 2 0 2\npublish\nend\nsessions 0\ndone\n",
+        ..LISTENS
+    },
+    Row {
+        model: &[PLACE, "-1", NEXT, "-1000000", HALF],
+        text: "events 3\nsettle 0 0 1 0\npublish\nend\nsessions 0\ndone\n",
+        ..LISTENS
+    },
+    // without a discount only the reward counts
+    Row {
+        model: &[DOORS, "0.5)) (right (0.5", ACTIONS, "0.0"],
+        ..LISTENS
+    },
+    // at 95 in 100 the other door is opened
+    Row {
+        model: &[DOORS, "0.95)) (right (0.05", ACTIONS, "0.999"],
+        text: "events 3\nsettle 0 0 2 0 0\npublish\nend\nsessions 0\ndone\n",
+        ..LISTENS
+    },
+    // the numbers of models
+    Row {
+        words: CHECK,
+        text: "ok variables 1 states 2 observations 2 actions 3 least -2000.000000000 units 7\n",
+        ..LISTENS
+    },
+    Row {
+        words: CHECK,
+        model: ROBOT,
+        text: "ok variables 6 states 96 observations 6 actions 3 least -150.000000000 units 57\n",
+        ..LISTENS
+    },
+    Row {
+        words: CHECK,
+        model: &[PLACE, "-1", NEXT, "1", "))) endaction discount 0.7"],
+        text: "ok variables 1 states 1 observations 1 actions 2 least -3.333333334 units 5\n",
+        ..LISTENS
+    },
+    Row {
+        words: CHECK,
+        model: &[PLACE, "1000000", NEXT, "1", "))) endaction discount 0.999"],
+        text: "ok variables 1 states 1 observations 1 actions 2 least -1000000000.000000000 units 5\n",
+        ..LISTENS
+    },
+    // a reward on the next state
+    Row {
+        words: CHECK,
+        model: &[WORTH, "(x' (a (0.0)) (b (3.0)))"],
+        text: "ok variables 1 states 2 observations 1 actions 1 least 0.000000000 units 5\n",
+        ..LISTENS
+    },
+    Row {
+        words: CHECK,
+        model: &[WORTH, "(o' (y (1.0)))"],
+        line: "perseus: refused: m.txt: byte 168: BadScope\n",
+        ..REFUSED
+    },
+    // words of no command; a fault of err changes no status
     Row { words: "", ..USAGE },
     Row {
-        words: "plan",
-        ..USAGE
-    },
-    Row {
         words: "show m.txt",
-        ..USAGE
-    },
-    Row {
-        words: "m.txt plan --beliefs 1 --depth 1 --stages 1 --seed 7 --workers 0",
-        ..USAGE
-    },
-    Row {
-        words: "plan --beliefs 1 --depth 1 --stages 1 --seed 7 --workers 0",
-        ..USAGE
-    },
-    Row {
-        words: "plan  --beliefs 1 --depth 1 --stages 1 --seed 7 --workers 0",
-        ..USAGE
-    },
-    Row {
-        words: "plan -m.txt --beliefs 1 --depth 1 --stages 1 --seed 7 --workers 0",
-        ..USAGE
-    },
-    Row {
-        words: "plan m.txt m.txt --beliefs 1 --depth 1 --stages 1 --seed 7 --workers 0",
         ..USAGE
     },
     Row {
@@ -132,58 +152,13 @@ const ROWS: [Row; 47] = [
         ..USAGE
     },
     Row {
-        words: "plan m.txt --beliefs 2 --depth 1 --stages 1 --seed 7 --workers 0",
-        ..USAGE
-    },
-    Row {
-        words: "plan m.txt --beliefs 1 --depth 0 --stages 1 --seed 7 --workers 0",
-        ..USAGE
-    },
-    Row {
-        words: "plan m.txt --beliefs 1 --depth 4097 --stages 1 --seed 7 --workers 0",
-        ..USAGE
-    },
-    Row {
-        words: "plan m.txt --beliefs 1 --depth 1 --stages 2 --seed 7 --workers 0",
-        ..USAGE
-    },
-    Row {
-        words: "plan m.txt --beliefs 1 --depth 1 --stages 1 --seed 18446744073709551616 --workers 0",
-        ..USAGE
-    },
-    Row {
-        words: "plan m.txt --beliefs 1 --depth 1 --stages 1 --seed 000000000000000000007 --workers 0",
-        ..USAGE
-    },
-    Row {
-        words: "plan m.txt --beliefs 1 --depth 1 --stages 1 --seed +7 --workers 0",
-        ..USAGE
-    },
-    Row {
-        words: "plan m.txt --beliefs 1 --depth 1 --stages 1 --seed  --workers 0",
-        ..USAGE
-    },
-    Row {
-        words: "plan m.txt --beliefs 1 --depth 1 --stages 1 --seed=7 --workers 0",
-        ..USAGE
-    },
-    Row {
-        words: "plan m.txt --beliefs 1 --depth 1 --stages 1 --seed 7 --seed 7 --workers 0",
-        ..USAGE
-    },
-    Row {
         words: "plan m.txt --beliefs 1 --depth 1 --stages 1 --seed 7 --workers 1",
         ..USAGE
     },
     Row {
-        words: "plan m.txt --beliefs 1 --depth 1 --stages 1 --seed 7 --workers",
+        words: "gen 17",
         ..USAGE
     },
-    Row {
-        words: "plan m.txt --beliefs 1 --depth 1 --stages 1 --seed 7 --workers 0 --prune",
-        ..USAGE
-    },
-    // a fault of err changes no status
     Row {
         words: "plan",
         failing_lines: &[1],
@@ -205,11 +180,6 @@ const ROWS: [Row; 47] = [
     },
     Row {
         most: 64,
-        failing_writes: &[3],
-        ..LISTENS
-    },
-    Row {
-        most: 64,
         failing_writes: &[1],
         status: 5,
         text: "",
@@ -218,6 +188,13 @@ const ROWS: [Row; 47] = [
     },
     // a read fails, or there is no such file
     Row {
+        failing_reads: &[1],
+        status: 4,
+        text: "",
+        line: "perseus: cannot read m.txt\n",
+        ..LISTENS
+    },
+    Row {
         failing_reads: &[2],
         status: 4,
         text: "",
@@ -225,7 +202,11 @@ const ROWS: [Row; 47] = [
         ..LISTENS
     },
     Row {
-        words: "plan n.txt --beliefs 1 --depth 1 --stages 1 --seed 7 --workers 0",
+        failing_reads: &[3],
+        ..LISTENS
+    },
+    Row {
+        words: "check n.txt",
         status: 4,
         text: "",
         line: "perseus: cannot read n.txt\n",
@@ -243,11 +224,6 @@ const ROWS: [Row; 47] = [
         ..REFUSED
     },
     Row {
-        model: &["(variables)"],
-        line: "perseus: refused: m.txt: byte 10: Unexpected\n",
-        ..REFUSED
-    },
-    Row {
         model: &["(variables (a \u{e9}))"],
         line: "perseus: refused: m.txt: byte 14: NotAscii\n",
         ..REFUSED
@@ -257,57 +233,57 @@ const ROWS: [Row; 47] = [
         line: "perseus: refused: m.txt: byte 39: Unsupported\n",
         ..REFUSED
     },
-    // of the grammar, and not planned for
+    // rules
     Row {
+        words: CHECK,
         model: &["(variables (a x)) (observations (o y))"],
-        ..NOT_BUILT
+        line: "perseus: refused: m.txt: byte 38: MissingPart\n",
+        ..REFUSED
+    },
+    Row {
+        model: &[HEARS, "0.16", HEARD],
+        line: "perseus: refused: m.txt: byte 91: RowSum listen hear row 0 sum 1.010000000\n",
+        ..REFUSED
+    },
+    Row {
+        model: &[HEARS, "0.14", HEARD],
+        line: "perseus: refused: m.txt: byte 91: RowSum listen hear row 0 sum 0.990000000\n",
+        ..REFUSED
     },
     Row {
         model: &[DOORS, "0.5)) (right (0.49", ACTIONS, "0.95"],
-        ..NOT_BUILT
+        line: "perseus: refused: m.txt: byte 69: InitSum sum 0.990000000\n",
+        ..REFUSED
     },
     Row {
         model: &[DOORS, "1.1)) (right (-0.1", ACTIONS, "0.95"],
-        ..NOT_BUILT
+        line: "perseus: refused: m.txt: byte 69: BadProbability\n",
+        ..REFUSED
     },
     Row {
-        model: &[DOORS, "0.5)) (right (0.5", ACTIONS, "0.999000001"],
-        ..NOT_BUILT
+        model: &[DOORS, "0.3333333333)) (right (0.5", ACTIONS, "0.95"],
+        line: "perseus: refused: m.txt: byte 83: TooFine\n",
+        ..REFUSED
     },
     Row {
-        model: &[DOORS, "0.5)) (right (0.5", ACTIONS, "1.0 discount 0.5"],
-        ..NOT_BUILT
+        model: &[PLACE, "1", NEXT, "1", "))) endaction discount 0.999000001"],
+        line: "perseus: refused: m.txt: byte 299: DiscountRange\n",
+        ..REFUSED
     },
     Row {
         model: &[PLACE, "1", NEXT, "1000000.000000001", HALF],
-        ..NOT_BUILT
+        line: "perseus: refused: m.txt: byte 318: RewardRange\n",
+        ..REFUSED
     },
-    // without a discount only the reward counts
+    // a trial
     Row {
-        model: &[DOORS, "0.5)) (right (0.5", ACTIONS, "0.0"],
-        ..LISTENS
-    },
-    // at 95 in 100 the other door is opened
-    Row {
-        model: &[DOORS, "0.95)) (right (0.05", ACTIONS, "0.999"],
-        text: "events 3\nsettle 0 0 2 0 0\npublish\nend\nsessions 0\ndone\n",
-        ..LISTENS
-    },
-    // at 90 in 100 it would be worth as much as to listen, but the weights are rounded down by 0.6 and 0.4
-    Row {
-        model: &[DOORS, "0.9)) (right (0.1", ACTIONS, "0.95"],
-        text: "events 3\nsettle 0 0 2 0 0\npublish\nend\nsessions 0\ndone\n",
-        ..LISTENS
-    },
-    // one state and one observation
-    Row {
-        model: &[PLACE, "-1", NEXT, "-1000000", HALF],
-        text: "events 3\nsettle 0 0 1 0\npublish\nend\nsessions 0\ndone\n",
+        words: "trial 0",
+        text: "trial 0\nstates 256\nbeliefs 100\nstages 5\nrecords 6\neditions 6\nmembers 1\nvalue 4.122697812\n",
         ..LISTENS
     },
     Row {
-        model: &[PLACE, "3", NEXT, "3", HALF],
-        text: "events 3\nsettle 0 0 0 0\npublish\nend\nsessions 0\ndone\n",
+        words: "trial 2",
+        text: "trial 2\nstates 1024\nbeliefs 100\nstages 5\nrecords 6\neditions 6\nmembers 1\nvalue 4.122697812\n",
         ..LISTENS
     },
 ];
@@ -330,29 +306,109 @@ fn words_of(alloc: Global, line: &str) -> Result<Vec<String>, AllocError> {
     Ok(words)
 }
 
-/// A store whose file `m.txt` has these pieces.
-fn store_of(alloc: Global, pieces: &[&str], failing: &[u64]) -> Result<MemStore, Fail> {
-    let mut model = String::new(alloc);
-    for piece in pieces {
-        model.push_str(piece)?;
-    }
+/// A store whose file `m.txt` has these bytes.
+fn store_of(alloc: Global, bytes: &[u8], failing: &[u64]) -> Result<MemStore, Fail> {
     let mut files = Files::new(alloc);
-    files.add("m.txt", model.as_bytes())?;
+    files.add("m.txt", bytes)?;
     Ok(MemStore::new(files, ids(alloc, failing)?))
+}
+
+/// What a call gave.
+#[derive(Drop)]
+struct Given {
+    status: Status,
+    out: MemSink,
+    err: MemSink,
+}
+
+/// Makes a call on a file of these bytes.
+fn call(alloc: Global, row: &Row, bytes: &[u8]) -> Result<Given, Fail> {
+    let words = words_of(alloc, row.words)?;
+    let mut store = store_of(alloc, bytes, row.failing_reads)?;
+    let mut out = MemSink::new(alloc, row.most.max(1), ids(alloc, row.failing_writes)?);
+    let mut err = MemSink::new(alloc, 65536, ids(alloc, row.failing_lines)?);
+    let mut choosers: Vec<Box<dyn Chooser + Send>> = Vec::new(alloc);
+    choosers.push(Box::new(alloc, Uniform)?)?;
+    choosers.push(Box::new(alloc, Sweep::new())?)?;
+    let status = run_plain(
+        alloc,
+        words.as_slice(),
+        choosers,
+        &mut store,
+        &mut out,
+        &mut err,
+    );
+    Ok(Given { status, out, err })
+}
+
+/// The bytes of these pieces.
+fn joined(alloc: Global, pieces: &[&str]) -> Result<String, AllocError> {
+    let mut text = String::new(alloc);
+    for piece in pieces {
+        text.push_str(piece)?;
+    }
+    Ok(text)
 }
 
 #[test]
 fn answers_as_stated(rt: HostRuntime) -> Result<(), Fail> {
     let alloc = rt.alloc();
     for (place, row) in ROWS.iter().enumerate() {
-        let words = words_of(alloc, row.words)?;
-        let mut store = store_of(alloc, row.model, row.failing_reads)?;
-        let mut out = MemSink::new(alloc, row.most.max(1), ids(alloc, row.failing_writes)?);
-        let mut err = MemSink::new(alloc, 65536, ids(alloc, row.failing_lines)?);
-        let status = run_plain(alloc, words.as_slice(), &mut store, &mut out, &mut err);
-        assert_eq!(rt; status.number(), row.status, "row {place}");
-        assert_eq!(rt; out.text(), row.text.as_bytes(), "row {place}");
-        assert_eq!(rt; err.text(), row.line.as_bytes(), "row {place}");
+        let model = joined(alloc, row.model)?;
+        let given = call(alloc, row, model.as_bytes())?;
+        assert_eq!(rt; given.err.text(), row.line.as_bytes(), "row {place}");
+        assert_eq!(rt; given.out.text(), row.text.as_bytes(), "row {place}");
+        assert_eq!(rt; given.status.number(), row.status, "row {place}");
+    }
+    Ok(())
+}
+
+#[test]
+fn generated_models_are_accepted(rt: HostRuntime) -> Result<(), Fail> {
+    let alloc = rt.alloc();
+    let rows = [
+        (
+            "gen 0",
+            "ok variables 8 states 256 observations 2 actions 6 least -20.000000000 units 28\n",
+        ),
+        (
+            "gen 12",
+            "ok variables 20 states 1048576 observations 2 actions 6 least -20.000000000 units 64\n",
+        ),
+        (
+            "gen 16",
+            "ok variables 24 states 16777216 observations 2 actions 6 least -20.000000000 units 76\n",
+        ),
+    ];
+    for (words, line) in &rows {
+        let made = call(alloc, &Row { words, ..LISTENS }, b"")?;
+        let given = call(
+            alloc,
+            &Row {
+                words: CHECK,
+                ..LISTENS
+            },
+            made.out.text(),
+        )?;
+        assert_eq!(rt; given.out.text(), line.as_bytes());
+    }
+    Ok(())
+}
+
+#[test]
+fn beginnings_are_judged(rt: HostRuntime) -> Result<(), Fail> {
+    let alloc = rt.alloc();
+    let model = joined(alloc, ROBOT)?;
+    let row = Row {
+        words: CHECK,
+        ..LISTENS
+    };
+    for end in 0..model.len() {
+        let given = call(alloc, &row, &model.as_bytes()[..end])?;
+        assert!(rt;
+            given.status == Status::Refused || given.status == Status::Done,
+            "{end} bytes"
+        );
     }
     Ok(())
 }
@@ -361,17 +417,11 @@ fn answers_as_stated(rt: HostRuntime) -> Result<(), Fail> {
 fn refuses_a_long_file(rt: HostRuntime) -> Result<(), Fail> {
     let alloc = rt.alloc();
     let model = vec![in alloc; b' '; 16777217]?;
-    let mut files = Files::new(alloc);
-    files.add("m.txt", model.as_slice())?;
-    let mut store = MemStore::new(files, Ids::new(alloc));
-    let mut out = MemSink::new(alloc, 65536, Ids::new(alloc));
-    let mut err = MemSink::new(alloc, 65536, Ids::new(alloc));
-    let words = words_of(alloc, WORDS)?;
-    let status = run_plain(alloc, words.as_slice(), &mut store, &mut out, &mut err);
-    assert_eq!(rt; status, Status::Refused);
-    assert_eq!(rt; out.text().len(), 0);
+    let given = call(alloc, &LISTENS, model.as_slice())?;
+    assert_eq!(rt; given.status, Status::Refused);
+    assert_eq!(rt; given.out.text().len(), 0);
     assert_eq!(rt;
-        err.text(),
+        given.err.text(),
         b"perseus: refused: m.txt: longer than 16777216 bytes\n".as_slice()
     );
     Ok(())

@@ -1,1 +1,3 @@
 pub mod ScopeGuards
+pub mod RowGuards
+pub mod TotalGuards

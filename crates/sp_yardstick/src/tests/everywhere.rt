@@ -1,180 +1,203 @@
-//! Comparisons at every point.
+//! The calls that answer a function, compared at every point with direct computation.
+use crate::tests::cases::{Case, Rule, case_of, leaf, made, product, row};
 use crate::tests::function::Function;
-use crate::tests::points::{
-    POINTS, advance, first_point, sample, scope_of, scopes, size_at, value_with,
-};
+use crate::tests::points::{POINTS, Point, advance, at, exchanged, scope_of, size_at, with};
+use crate::tests::whole::compare_whole;
 use sp_dd::{Diagram, Scope};
 use sp_table::Table;
 use std::alloc::Global;
 use std::test::Fail;
 
-/// The least that `max_with` is given.
-const FLOOR: i128 = 3_000_000;
+/// The least that `max_with` is given, and the value of `constant`.
+const FLOOR: i128 = -3_000_001;
 
-/// The answers of the calls on two functions, the first of which is weighed by the second.
-#[derive(Drop)]
-struct Answers<F: Drop> {
-    f: F,
-    g: F,
-    sum: F,
-    product: F,
-    raised: F,
-    summed: F,
-    weighed: F,
-    restricted: F,
+/// The calls that answer a function.
+#[derive(Clone, Copy)]
+enum Call {
+    Constant,
+    LeafBy,
+    Branch,
+    Add,
+    MulFloor,
+    MulWhole,
+    Times,
+    SumOut,
+    WeighOut,
+    MaxWith,
+    Restrict,
+    Prime,
+    Unprime,
+    Diagonal,
 }
 
-fn answered<F: Function>(
+/// All calls that answer a function.
+fn calls() -> [(Call, &'static str); 14] {
+    [
+        (Call::Constant, "constant"),
+        (Call::LeafBy, "leaf_by"),
+        (Call::Branch, "branch"),
+        (Call::Add, "add"),
+        (Call::MulFloor, "mul_floor"),
+        (Call::MulWhole, "mul_whole"),
+        (Call::Times, "times"),
+        (Call::SumOut, "sum_out"),
+        (Call::WeighOut, "weigh_out"),
+        (Call::MaxWith, "max_with"),
+        (Call::Restrict, "restrict"),
+        (Call::Prime, "prime"),
+        (Call::Unprime, "unprime"),
+        (Call::Diagonal, "diagonal"),
+    ]
+}
+
+/// The function that a call is given first.
+fn given(call: Call, case: Case) -> Rule {
+    match call {
+        Call::Prime => case.of_states(case.seed, 0),
+        Call::Unprime => case.of_states(case.seed, 1),
+        Call::Diagonal => Rule {
+            seed: case.seed,
+            left: case.slot,
+            right: 1,
+        },
+        _ => case.first(),
+    }
+}
+
+/// What a call has to answer at a point, by direct computation.
+fn wanted(call: Call, case: Case, point: &Point) -> i128 {
+    let f = given(call, case);
+    let x = f.value(point);
+    let y = case.second().value(point);
+    match call {
+        Call::Constant => FLOOR,
+        Call::LeafBy => leaf(case.seed, case.slot, at(point, case.slot)),
+        Call::Branch => part(case, at(point, case.slot)).value(point),
+        Call::Add => x.wrapping_add(y),
+        Call::MulFloor => product(x, y),
+        Call::MulWhole => product(
+            leaf(case.seed, case.slot, at(point, case.slot)),
+            leaf(case.seed, case.after(2), at(point, case.after(2))),
+        ),
+        Call::Times => x.wrapping_mul(-3),
+        Call::SumOut => case.sum(f, point),
+        Call::WeighOut => case.mean(f, point),
+        Call::MaxWith => x.max(FLOOR),
+        Call::Restrict => f.value(&with(point, case.slot, case.size().saturating_sub(1))),
+        Call::Prime | Call::Unprime => f.value(&exchanged(point, case.space.variables)),
+        Call::Diagonal => f.value(&with(point, 1, at(point, 0))),
+    }
+}
+
+/// What a call answers.
+fn answer<F: Function>(alloc: Global, scope: &Scope, call: Call, case: Case) -> Result<F, Fail> {
+    let f: F = made(alloc, scope, given(call, case))?;
+    let g: F = made(alloc, scope, case.second())?;
+    match call {
+        Call::Constant => F::constant(alloc, scope, FLOOR),
+        Call::LeafBy => row(alloc, scope, case.seed, case.slot),
+        Call::Branch => branched(alloc, scope, case),
+        Call::Add => F::add(alloc, &f, &g),
+        Call::MulFloor => F::mul_floor(alloc, &f, &g),
+        Call::MulWhole => whole_product(alloc, scope, case),
+        Call::Times => F::times(alloc, &f, -3),
+        Call::SumOut => F::sum_out(alloc, &f, case.slot),
+        Call::WeighOut => weighed(alloc, scope, &f, case),
+        Call::MaxWith => F::max_with(alloc, &f, FLOOR),
+        Call::Restrict => F::restrict(alloc, &f, case.slot, case.size().saturating_sub(1)),
+        Call::Prime => F::prime(alloc, &f),
+        Call::Unprime => F::unprime(alloc, &f),
+        Call::Diagonal => F::diagonal(alloc, &f, 1),
+    }
+}
+
+/// The part of a value.
+fn part(case: Case, value: u64) -> Rule {
+    let mut rule = case.second();
+    rule.seed = rule.seed.wrapping_add(value);
+    rule
+}
+
+/// A part for each value of the slot.
+fn branched<F: Function>(alloc: Global, scope: &Scope, case: Case) -> Result<F, Fail> {
+    let mut parts = Vec::new(alloc);
+    for value in 0..case.size() {
+        let f: F = made(alloc, scope, part(case, value))?;
+        parts.push(f)?;
+    }
+    F::branch(alloc, scope, case.slot, parts.as_slice())
+}
+
+/// The product of two rows of thousandths, which is a whole number of ticks.
+fn whole_product<F: Function>(alloc: Global, scope: &Scope, case: Case) -> Result<F, Fail> {
+    let a: F = row(alloc, scope, case.seed, case.slot)?;
+    let b: F = row(alloc, scope, case.seed, case.after(2))?;
+    match F::mul_whole(alloc, &a, &b)? {
+        Some(whole) => Ok(whole),
+        None => Err(Fail::new("mul_whole refuses a whole product")),
+    }
+}
+
+/// A function weighed out over the slot, by a row for each value of the slot behind it.
+fn weighed<F: Function>(alloc: Global, scope: &Scope, f: &F, case: Case) -> Result<F, Fail> {
+    let mut parts = Vec::new(alloc);
+    for row in 0..size_at(scope, case.after(1))? {
+        let p: F = weights(alloc, scope, case, row)?;
+        parts.push(p)?;
+    }
+    let p = F::branch(alloc, scope, case.after(1), parts.as_slice())?;
+    F::weigh_out(alloc, f, case.slot, &p)
+}
+
+/// The weights of one row.
+fn weights<F: Function>(alloc: Global, scope: &Scope, case: Case, row: u64) -> Result<F, Fail> {
+    let mut leaves = Vec::new(alloc);
+    for value in 0..case.size() {
+        leaves.push(case.weight(row, value))?;
+    }
+    F::leaf_by(alloc, scope, case.slot, leaves.as_slice())
+}
+
+/// Compares a call's answer at each point with direct computation.
+fn compare<F: Function>(
     alloc: Global,
     scope: &Scope,
-    seed: u64,
-    slot: u64,
-    value: u64,
-) -> Result<Answers<F>, Fail> {
-    let mut state = seed;
-    let f: F = sample(alloc, scope, &mut state, &[0, 2])?;
-    let g: F = sample(alloc, scope, &mut state, &[1, 2])?;
-    let sum = F::add(alloc, &f, &g)?;
-    let product = F::mul_floor(alloc, &f, &g)?;
-    let raised = F::max_with(alloc, &f, FLOOR)?;
-    let summed = F::sum_out(alloc, &f, slot)?;
-    let weights: F = F::constant(alloc, scope, 333_333_333)?;
-    let weighed = F::weigh_out(alloc, &f, slot, &weights)?;
-    let restricted = F::restrict(alloc, &f, slot, value)?;
-    drop(weights);
-    Ok(Answers {
-        f,
-        g,
-        sum,
-        product,
-        raised,
-        summed,
-        weighed,
-        restricted,
-    })
-}
-
-/// Fails unless two numbers are equal.
-fn are_equal(found: i128, wanted: i128, call: &str) -> Result<(), Fail> {
-    if found == wanted {
-        return Ok(());
-    }
-    Err(Fail::new(format_args!("{call}: {found}, not {wanted}")))
-}
-
-/// Compares the answers at a point with direct computation.
-fn compare_at<F: Function>(
-    all: &Answers<F>,
-    scope: &Scope,
-    point: &mut [u64],
-    slot: u64,
-    value: u64,
+    call: Call,
+    case: Case,
+    name: &str,
 ) -> Result<(), Fail> {
-    let x = all.f.value(point)?;
-    let y = all.g.value(point)?;
-    are_equal(
-        all.sum.value(point)?,
-        x.checked_add(y).ok_or("too large")?,
-        "add",
-    )?;
-    let product = x.checked_mul(y).ok_or("too large")?;
-    are_equal(
-        all.product.value(point)?,
-        product.div_euclid(1_000_000_000),
-        "mul_floor",
-    )?;
-    are_equal(
-        all.raised.value(point)?,
-        if x < FLOOR { FLOOR } else { x },
-        "max_with",
-    )?;
-    let chosen = value_with(&all.f, point, slot, value)?;
-    are_equal(all.restricted.value(point)?, chosen, "restrict")?;
-    let mut total = 0i128;
-    for other in 0..size_at(scope, slot)? {
-        let z = value_with(&all.f, point, slot, other)?;
-        total = total.checked_add(z).ok_or("too large")?;
-    }
-    are_equal(all.summed.value(point)?, total, "sum_out")?;
-    let mean = total.checked_mul(333_333_333).ok_or("too large")?;
-    are_equal(
-        all.weighed.value(point)?,
-        mean.div_euclid(1_000_000_000),
-        "weigh_out",
-    )
-}
-
-/// Compares the answers of tables with those of diagrams at a point.
-fn agree_at(
-    tables: &Answers<Table>,
-    diagrams: &Answers<Diagram>,
-    point: &[u64],
-) -> Result<(), Fail> {
-    are_equal(
-        diagrams.f.value(point)?,
-        tables.f.value(point)?,
-        "the first function",
-    )?;
-    are_equal(
-        diagrams.g.value(point)?,
-        tables.g.value(point)?,
-        "the second function",
-    )?;
-    are_equal(diagrams.sum.value(point)?, tables.sum.value(point)?, "add")?;
-    are_equal(
-        diagrams.product.value(point)?,
-        tables.product.value(point)?,
-        "mul_floor",
-    )?;
-    are_equal(
-        diagrams.raised.value(point)?,
-        tables.raised.value(point)?,
-        "max_with",
-    )?;
-    are_equal(
-        diagrams.summed.value(point)?,
-        tables.summed.value(point)?,
-        "sum_out",
-    )?;
-    are_equal(
-        diagrams.weighed.value(point)?,
-        tables.weighed.value(point)?,
-        "weigh_out",
-    )?;
-    are_equal(
-        diagrams.restricted.value(point)?,
-        tables.restricted.value(point)?,
-        "restrict",
-    )
-}
-
-/// Compares all answers at each point of a scope.
-fn compare(alloc: Global, scope: &Scope, seed: u64, slot: u64) -> Result<(), Fail> {
-    let value = size_at(scope, slot)?.saturating_sub(1);
-    let tables: Answers<Table> = answered(alloc, scope, seed, slot, value)?;
-    let diagrams: Answers<Diagram> = answered(alloc, scope, seed, slot, value)?;
-    let mut point = first_point(alloc, scope)?;
+    let found: F = answer(alloc, scope, call, case)?;
+    let mut point = [0; 5];
     for _ in 0..POINTS {
-        compare_at(&tables, scope, point.as_mut_slice(), slot, value)?;
-        compare_at(&diagrams, scope, point.as_mut_slice(), slot, value)?;
-        agree_at(&tables, &diagrams, point.as_slice())?;
-        if !advance(scope, point.as_mut_slice()) {
+        let x = found.value(&point)?;
+        let y = wanted(call, case, &point);
+        if x != y {
+            return Err(Fail::new(format_args!("{name}: {x}, not {y}")));
+        }
+        if !advance(&case.space.sizes, &mut point) {
             return Ok(());
         }
     }
     Err(Fail::new("more points than the scope has"))
 }
 
+/// Compares both forms with direct computation in each call.
+fn compare_all(alloc: Global, scope: &Scope, case: Case) -> Result<(), Fail> {
+    for (call, name) in calls() {
+        compare::<Table>(alloc, scope, call, case, name)?;
+        compare::<Diagram>(alloc, scope, call, case, name)?;
+    }
+    Ok(())
+}
+
 #[test]
-fn tables_and_diagrams_agree(rt: HostRuntime) -> Result<(), Fail> {
+fn both_forms_agree_with_direct_computation(rt: HostRuntime) -> Result<(), Fail> {
     let alloc = rt.alloc();
-    for (sizes, variables) in scopes() {
-        let scope = scope_of(alloc, sizes, variables)?;
-        for seed in [1u64, 2, 3, 5, 8, 13] {
-            for slot in 0..3 {
-                compare(alloc, &scope, seed, slot)?;
-            }
-        }
+    for number in 0..120 {
+        let case = case_of(number);
+        let scope = scope_of(alloc, &case.space.sizes, case.space.variables)?;
+        compare_all(alloc, &scope, case)?;
+        compare_whole(alloc, &scope, case)?;
     }
     Ok(())
 }

@@ -11,11 +11,15 @@ pub trait Function: Drop {
 
     fn leaf_by(alloc: Global, scope: &Scope, slot: u64, leaves: &[i128]) -> Result<Self, Fail>;
 
+    fn branch(alloc: Global, scope: &Scope, slot: u64, parts: &[Self]) -> Result<Self, Fail>;
+
     fn add(alloc: Global, f: &Self, g: &Self) -> Result<Self, Fail>;
 
     fn mul_floor(alloc: Global, f: &Self, g: &Self) -> Result<Self, Fail>;
 
     fn mul_whole(alloc: Global, f: &Self, g: &Self) -> Result<Option<Self>, Fail>;
+
+    fn times(alloc: Global, f: &Self, k: i128) -> Result<Self, Fail>;
 
     fn sum_out(alloc: Global, f: &Self, slot: u64) -> Result<Self, Fail>;
 
@@ -24,6 +28,14 @@ pub trait Function: Drop {
     fn max_with(alloc: Global, f: &Self, least: i128) -> Result<Self, Fail>;
 
     fn restrict(alloc: Global, f: &Self, slot: u64, value: u64) -> Result<Self, Fail>;
+
+    fn prime(alloc: Global, f: &Self) -> Result<Self, Fail>;
+
+    fn unprime(alloc: Global, f: &Self) -> Result<Self, Fail>;
+
+    fn diagonal(alloc: Global, f: &Self, primed: u64) -> Result<Self, Fail>;
+
+    fn dot(alloc: Global, w: &Self, f: &Self) -> Result<i128, Fail>;
 
     fn below(alloc: Global, f: &Self, g: &Self) -> Result<Option<Ids>, Fail>;
 
@@ -46,9 +58,6 @@ pub const SLOT_SUMMAND: u128 = 0x10_0000_0000_0000_0000_0000_0000;
 
 /// The farthest from 0 that a factor may be.
 pub const FACTOR: u128 = 0x4000_0000_0000_0000;
-
-/// The greatest weight, which is one in ticks.
-pub const WEIGHT: u128 = 1_000_000_000;
 
 /// A failure where a call may not be made.
 pub fn refused(call: &'static str) -> Fail {

@@ -1,7 +1,10 @@
 //! The calls on diagrams.
-use crate::diagrams::{has_same_scope, has_slot, has_value, is_point, is_within};
+use crate::diagrams::{
+    are_of, are_weights, has_same_scope, has_slot, has_value, is_on_primed, is_on_unprimed,
+    is_point, is_row, is_within, is_within_times,
+};
 use crate::scopes;
-use crate::tests::function::{FACTOR, Function, SLOT_SUMMAND, SUMMAND, WEIGHT, refused};
+use crate::tests::function::{FACTOR, Function, SLOT_SUMMAND, SUMMAND, refused};
 use sp_dd::{Diagram, Ids, Scope};
 use std::alloc::Global;
 use std::test::Fail;
@@ -26,6 +29,16 @@ impl Function for Diagram {
             return Err(refused("leaf_by"));
         }
         Ok(sp_ddops::leaf_by(alloc, scope, slot, leaves)?)
+    }
+
+    fn branch(alloc: Global, scope: &Scope, slot: u64, parts: &[Diagram]) -> Result<Diagram, Fail> {
+        if !scopes::has_slot(scope, slot) {
+            return Err(refused("branch"));
+        }
+        if parts.len() as u64 != scope.size(slot) || !are_of(scope, parts) {
+            return Err(refused("branch"));
+        }
+        Ok(sp_ddops::branch(alloc, scope, slot, parts)?)
     }
 
     fn add(alloc: Global, f: &Diagram, g: &Diagram) -> Result<Diagram, Fail> {
@@ -58,6 +71,13 @@ impl Function for Diagram {
         Ok(sp_ddops::mul_whole(alloc, f, g)?)
     }
 
+    fn times(alloc: Global, f: &Diagram, k: i128) -> Result<Diagram, Fail> {
+        if !is_within_times(f, k) {
+            return Err(refused("times"));
+        }
+        Ok(sp_ddops::times(alloc, f, k)?)
+    }
+
     fn sum_out(alloc: Global, f: &Diagram, slot: u64) -> Result<Diagram, Fail> {
         if !has_slot(f, slot) {
             return Err(refused("sum_out"));
@@ -72,10 +92,10 @@ impl Function for Diagram {
         if !has_same_scope(f, p) {
             return Err(refused("weigh_out"));
         }
-        if !has_slot(f, slot) {
+        if !has_slot(p, slot) {
             return Err(refused("weigh_out"));
         }
-        if !is_within(f, FACTOR) || !is_within(p, WEIGHT) {
+        if !is_within(f, FACTOR) || !is_row(alloc, p, slot)? {
             return Err(refused("weigh_out"));
         }
         Ok(sp_ddops::weigh_out(alloc, f, slot, p)?)
@@ -93,6 +113,40 @@ impl Function for Diagram {
             return Err(refused("restrict"));
         }
         Ok(sp_ddops::restrict(alloc, f, slot, value)?)
+    }
+
+    fn prime(alloc: Global, f: &Diagram) -> Result<Diagram, Fail> {
+        if !is_on_unprimed(f) {
+            return Err(refused("prime"));
+        }
+        Ok(sp_ddops::prime(alloc, f)?)
+    }
+
+    fn unprime(alloc: Global, f: &Diagram) -> Result<Diagram, Fail> {
+        if !is_on_primed(f) {
+            return Err(refused("unprime"));
+        }
+        Ok(sp_ddops::unprime(alloc, f)?)
+    }
+
+    fn diagonal(alloc: Global, f: &Diagram, primed: u64) -> Result<Diagram, Fail> {
+        if !scopes::is_primed(f.scope(), primed) {
+            return Err(refused("diagonal"));
+        }
+        Ok(sp_ddops::diagonal(alloc, f, primed)?)
+    }
+
+    fn dot(alloc: Global, w: &Diagram, f: &Diagram) -> Result<i128, Fail> {
+        if !has_same_scope(w, f) || !is_on_unprimed(w) {
+            return Err(refused("dot"));
+        }
+        if !is_on_unprimed(f) || !are_weights(w) {
+            return Err(refused("dot"));
+        }
+        if !is_within(f, FACTOR) {
+            return Err(refused("dot"));
+        }
+        Ok(sp_ddops::dot(alloc, w, f)?)
     }
 
     fn below(alloc: Global, f: &Diagram, g: &Diagram) -> Result<Option<Ids>, Fail> {

@@ -1,7 +1,10 @@
 //! The calls on tables.
 use crate::scopes;
-use crate::tables::{has_same_scope, has_slot, has_value, is_point, is_within};
-use crate::tests::function::{FACTOR, Function, SLOT_SUMMAND, SUMMAND, WEIGHT, refused};
+use crate::tables::{
+    are_of, are_weights, has_same_scope, has_slot, has_value, is_on_primed, is_on_unprimed,
+    is_point, is_row, is_within, is_within_times,
+};
+use crate::tests::function::{FACTOR, Function, SLOT_SUMMAND, SUMMAND, refused};
 use sp_dd::{Ids, Scope};
 use sp_table::Table;
 use std::alloc::Global;
@@ -27,6 +30,16 @@ impl Function for Table {
             return Err(refused("leaf_by"));
         }
         Ok(sp_table::leaf_by(alloc, scope, slot, leaves)?)
+    }
+
+    fn branch(alloc: Global, scope: &Scope, slot: u64, parts: &[Table]) -> Result<Table, Fail> {
+        if !scopes::has_slot(scope, slot) {
+            return Err(refused("branch"));
+        }
+        if parts.len() as u64 != scope.size(slot) || !are_of(scope, parts) {
+            return Err(refused("branch"));
+        }
+        Ok(sp_table::branch(alloc, scope, slot, parts)?)
     }
 
     fn add(alloc: Global, f: &Table, g: &Table) -> Result<Table, Fail> {
@@ -59,6 +72,13 @@ impl Function for Table {
         Ok(sp_table::mul_whole(alloc, f, g)?)
     }
 
+    fn times(alloc: Global, f: &Table, k: i128) -> Result<Table, Fail> {
+        if !is_within_times(f, k) {
+            return Err(refused("times"));
+        }
+        Ok(sp_table::times(alloc, f, k)?)
+    }
+
     fn sum_out(alloc: Global, f: &Table, slot: u64) -> Result<Table, Fail> {
         if !has_slot(f, slot) {
             return Err(refused("sum_out"));
@@ -73,10 +93,10 @@ impl Function for Table {
         if !has_same_scope(f, p) {
             return Err(refused("weigh_out"));
         }
-        if !has_slot(f, slot) {
+        if !has_slot(p, slot) {
             return Err(refused("weigh_out"));
         }
-        if !is_within(f, FACTOR) || !is_within(p, WEIGHT) {
+        if !is_within(f, FACTOR) || !is_row(alloc, p, slot)? {
             return Err(refused("weigh_out"));
         }
         Ok(sp_table::weigh_out(alloc, f, slot, p)?)
@@ -94,6 +114,40 @@ impl Function for Table {
             return Err(refused("restrict"));
         }
         Ok(sp_table::restrict(alloc, f, slot, value)?)
+    }
+
+    fn prime(alloc: Global, f: &Table) -> Result<Table, Fail> {
+        if !is_on_unprimed(f) {
+            return Err(refused("prime"));
+        }
+        Ok(sp_table::prime(alloc, f)?)
+    }
+
+    fn unprime(alloc: Global, f: &Table) -> Result<Table, Fail> {
+        if !is_on_primed(f) {
+            return Err(refused("unprime"));
+        }
+        Ok(sp_table::unprime(alloc, f)?)
+    }
+
+    fn diagonal(alloc: Global, f: &Table, primed: u64) -> Result<Table, Fail> {
+        if !scopes::is_primed(f.scope(), primed) {
+            return Err(refused("diagonal"));
+        }
+        Ok(sp_table::diagonal(alloc, f, primed)?)
+    }
+
+    fn dot(alloc: Global, w: &Table, f: &Table) -> Result<i128, Fail> {
+        if !has_same_scope(w, f) || !is_on_unprimed(w) {
+            return Err(refused("dot"));
+        }
+        if !is_on_unprimed(f) || !are_weights(w) {
+            return Err(refused("dot"));
+        }
+        if !is_within(f, FACTOR) {
+            return Err(refused("dot"));
+        }
+        Ok(sp_table::dot(alloc, w, f)?)
     }
 
     fn below(alloc: Global, f: &Table, g: &Table) -> Result<Option<Ids>, Fail> {

@@ -1,33 +1,90 @@
-//! The calls that answer for all points at once, compared with a scan of the points.
+//! The calls that answer for all points at once, compared with a scan of the points by direct computation.
+use crate::tests::cases::{Case, Rule, made};
 use crate::tests::function::Function;
-use crate::tests::points::{POINTS, advance, first_point, sample, scope_of, scopes, value_with};
+use crate::tests::points::{POINTS, Point, advance, is_state, with};
 use sp_dd::{Diagram, Ids, Scope};
 use sp_table::Table;
 use std::alloc::Global;
 use std::test::Fail;
 
 /// What a scan of the points of two functions has met so far.
-#[derive(Drop)]
+#[derive(Clone, Copy)]
 struct Scan {
     low: i128,
     high: i128,
-    is_above: bool,
-    is_apart: bool,
+    above: Option<Point>,
+    apart: Option<Point>,
     is_equal: bool,
+    is_whole: bool,
+    dot: i128,
 }
 
-/// Fails unless that point was found.
-fn is_found(found: &Option<Ids>, point: &[u64], call: &'static str) -> Result<(), Fail> {
-    match found {
-        Some(ids) => {
-            if ids.as_slice() == point {
-                Ok(())
-            } else {
-                Err(Fail::new(call))
-            }
+impl Scan {
+    fn meet(&mut self, case: Case, first: i128, point: &Point) {
+        let x = case.first().value(point);
+        let y = case.second().value(point);
+        self.low = self.low.min(x);
+        self.high = self.high.max(x);
+        if x > y && self.above.is_none() {
+            self.above = Some(*point);
         }
-        None => Err(Fail::new(call)),
+        if x != first && self.apart.is_none() {
+            self.apart = Some(*point);
+        }
+        self.is_equal = self.is_equal && x == y;
+        self.is_whole = self.is_whole && x.wrapping_mul(y) % 1_000_000_000 == 0;
+        if is_state(point, case.space.variables) {
+            let weight = heavy(case).value(point).max(0);
+            let value = light(case).value(point);
+            self.dot = self.dot.wrapping_add(weight.wrapping_mul(value));
+        }
     }
+}
+
+/// The function whose larger values, with 0, are weights of the states.
+fn heavy(case: Case) -> Rule {
+    case.of_states(case.seed, 0)
+}
+
+/// A function of the states.
+fn light(case: Case) -> Rule {
+    case.of_states(case.seed.wrapping_add(1), 0)
+}
+
+/// Scans all points.
+fn scanned(case: Case, first: i128) -> Scan {
+    let mut seen = Scan {
+        low: first,
+        high: first,
+        above: None,
+        apart: None,
+        is_equal: true,
+        is_whole: true,
+        dot: 0,
+    };
+    let mut point = [0; 5];
+    for _ in 0..POINTS {
+        seen.meet(case, first, &point);
+        if !advance(&case.space.sizes, &mut point) {
+            return seen;
+        }
+    }
+    seen
+}
+
+/// Whether some point's value changes where that slot has its first value.
+fn is_moved(case: Case, slot: u64) -> bool {
+    let f = case.first();
+    let mut point = [0; 5];
+    for _ in 0..POINTS {
+        if f.value(&with(&point, slot, 0)) != f.value(&point) {
+            return true;
+        }
+        if !advance(&case.space.sizes, &mut point) {
+            return false;
+        }
+    }
+    false
 }
 
 /// Fails unless the test holds.
@@ -35,102 +92,65 @@ fn holds(test: bool, call: &'static str) -> Result<(), Fail> {
     if test { Ok(()) } else { Err(Fail::new(call)) }
 }
 
-/// Scans two functions for the least and the greatest value of the first, the first point at which it is above the second, and the
-/// first at which it isn't `first`, which `below` and `first_apart` have to find.
-fn scanned<F: Function>(
-    alloc: Global,
-    scope: &Scope,
-    f: &F,
-    g: &F,
-    first: i128,
-) -> Result<Scan, Fail> {
-    let below = F::below(alloc, f, g)?;
-    let other = F::first_apart(alloc, f, first)?;
-    let mut point = first_point(alloc, scope)?;
-    let mut seen = Scan {
-        low: first,
-        high: first,
-        is_above: false,
-        is_apart: false,
-        is_equal: true,
-    };
-    for _ in 0..POINTS {
-        let x = f.value(point.as_slice())?;
-        let y = g.value(point.as_slice())?;
-        seen.low = seen.low.min(x);
-        seen.high = seen.high.max(x);
-        if x > y && !seen.is_above {
-            seen.is_above = true;
-            is_found(&below, point.as_slice(), "below")?;
-        }
-        if x != first && !seen.is_apart {
-            seen.is_apart = true;
-            is_found(&other, point.as_slice(), "first_apart")?;
-        }
-        seen.is_equal = seen.is_equal && x == y;
-        if !advance(scope, point.as_mut_slice()) {
-            holds(
-                below.is_some() == seen.is_above,
-                "below finds a point too many",
-            )?;
-            holds(
-                other.is_some() == seen.is_apart,
-                "first_apart finds a point too many",
-            )?;
-            return Ok(seen);
-        }
+/// Whether that point was found, or none where there is none.
+fn is_found(found: &Option<Ids>, point: &Option<Point>) -> bool {
+    match (found, point) {
+        (Some(ids), Some(coordinates)) => ids.as_slice() == coordinates.as_slice(),
+        (None, None) => true,
+        _ => false,
     }
-    Err(Fail::new("more points than the scope has"))
-}
-
-/// Whether some point's value changes where that slot has its first value.
-fn is_moved<F: Function>(alloc: Global, scope: &Scope, f: &F, slot: u64) -> Result<bool, Fail> {
-    let mut point = first_point(alloc, scope)?;
-    for _ in 0..POINTS {
-        let x = f.value(point.as_slice())?;
-        if value_with(f, point.as_mut_slice(), slot, 0)? != x {
-            return Ok(true);
-        }
-        if !advance(scope, point.as_mut_slice()) {
-            return Ok(false);
-        }
-    }
-    Err(Fail::new("more points than the scope has"))
 }
 
 /// Compares the answers on two functions with what a scan meets.
-fn compare<F: Function>(alloc: Global, scope: &Scope, seed: u64) -> Result<Scan, Fail> {
-    let mut state = seed;
-    let f: F = sample(alloc, scope, &mut state, &[0, 2])?;
-    let g: F = sample(alloc, scope, &mut state, &[1, 2])?;
-    let start = first_point(alloc, scope)?;
-    let first = f.value(start.as_slice())?;
-    let seen = scanned(alloc, scope, &f, &g, first)?;
+fn compare<F: Function>(
+    alloc: Global,
+    scope: &Scope,
+    case: Case,
+    first: i128,
+    seen: &Scan,
+) -> Result<(), Fail> {
+    let f: F = made(alloc, scope, case.first())?;
+    let g: F = made(alloc, scope, case.second())?;
     holds(F::least(&f) == seen.low, "least")?;
     holds(F::greatest(&f) == seen.high, "greatest")?;
     holds(F::is_same(&f, &g)? == seen.is_equal, "same")?;
-    let raised = F::max_with(alloc, &f, seen.low)?;
-    holds(F::is_same(&f, &raised)?, "same of equal functions")?;
-    for slot in 0..scope.slots() {
+    let product = F::mul_whole(alloc, &f, &g)?;
+    holds(product.is_some() == seen.is_whole, "mul_whole")?;
+    let above = F::below(alloc, &f, &g)?;
+    holds(is_found(&above, &seen.above), "below")?;
+    let apart = F::first_apart(alloc, &f, first)?;
+    holds(is_found(&apart, &seen.apart), "first_apart")?;
+    for slot in 0..5 {
         holds(
-            F::is_dependent(&f, slot)? == is_moved(alloc, scope, &f, slot)?,
+            F::is_dependent(&f, slot)? == is_moved(case, slot),
             "depends",
         )?;
     }
-    Ok(seen)
+    Ok(())
 }
 
-#[test]
-fn answers_for_all_points(rt: HostRuntime) -> Result<(), Fail> {
-    let alloc = rt.alloc();
-    for (sizes, variables) in scopes() {
-        let scope = scope_of(alloc, sizes, variables)?;
-        for seed in [1u64, 2, 3, 5, 8, 13] {
-            let table = compare::<Table>(alloc, &scope, seed)?;
-            let diagram = compare::<Diagram>(alloc, &scope, seed)?;
-            holds(table.low == diagram.low, "least of both")?;
-            holds(table.high == diagram.high, "greatest of both")?;
-        }
-    }
-    Ok(())
+/// Compares the sum over all states, and the equality of equal functions that were made in two ways.
+fn compare_sums<F: Function>(
+    alloc: Global,
+    scope: &Scope,
+    case: Case,
+    seen: &Scan,
+) -> Result<(), Fail> {
+    let heavy: F = made(alloc, scope, heavy(case))?;
+    let light: F = made(alloc, scope, light(case))?;
+    let weights = F::max_with(alloc, &heavy, 0)?;
+    holds(F::dot(alloc, &weights, &light)? == seen.dot, "dot")?;
+    let next = F::prime(alloc, &light)?;
+    let back = F::unprime(alloc, &next)?;
+    holds(F::is_same(&light, &back)?, "same of equal functions")
+}
+
+/// Compares both forms with a scan.
+pub fn compare_whole(alloc: Global, scope: &Scope, case: Case) -> Result<(), Fail> {
+    let first = case.first().value(&[0; 5]);
+    let seen = scanned(case, first);
+    compare::<Table>(alloc, scope, case, first, &seen)?;
+    compare::<Diagram>(alloc, scope, case, first, &seen)?;
+    compare_sums::<Table>(alloc, scope, case, &seen)?;
+    compare_sums::<Diagram>(alloc, scope, case, &seen)
 }

@@ -8,5 +8,5 @@ returns-in-Ok g c = answers _ (g.E.Sink.written c.args.err.now) (g.E.Sink.writte
 
 pub returns-in-Err : goal.returns-in-Err
 returns-in-Err g c = ends (map string_bytes c.args.words.now) (g.S.Store.folder c.args.store.now) (g.S.Store.folder c.work.new.store) (g.K.Sink.written c.args.out.now) (g.K.Sink.written c.work.new.out)
-    (g.E.Sink.written c.args.err.now) (g.E.Sink.written c.write_whole.new.sink) c.in-Err.fault c.as_bytes.result.now c.status.result c.write_whole.result
-    c.in-Err.ensures (c.as_bytes.ensures.value ∙ c.line.ensures) c.status.ensures c.write_whole.ensures.whole c.write_whole.ensures.part c.write_whole.ensures.cause
+    (g.E.Sink.written c.args.err.now) (g.E.Sink.written c.write_whole.new.sink) c.in-Err.fault c.line.result.now c.status.result c.write_whole.result
+    c.in-Err.ensures c.line.ensures c.status.ensures c.write_whole.ensures.whole c.write_whole.ensures.part c.write_whole.ensures.cause

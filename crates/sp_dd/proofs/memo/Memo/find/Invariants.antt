@@ -1,8 +1,4 @@
-use Rattle.std.proofs.Common.{◌≤◌, length}
 use Rattle.sp_dd.proofs.memo.Memo.find.Given as goal
-
-abbrev pub invariant-loop-top : goal.invariant-loop-top
-invariant-loop-top l = l.top ≤ length l.self-inside.chains
 
 abbrev pub decreases-loop-top : goal.decreases-loop-top
 decreases-loop-top l = l.top

@@ -1,0 +1,17 @@
+pub mod Drawing
+pub mod Places
+pub mod Weighed
+pub mod Tables
+pub mod NextWeighed
+pub mod SeenWeighed
+pub mod Products
+pub mod Rewards
+pub mod Worth
+pub mod Priming
+pub mod Thinning
+pub mod MembersById
+pub mod Decoded
+pub mod LinkSums
+pub mod AllLinks
+pub mod Trials
+pub mod Assembled

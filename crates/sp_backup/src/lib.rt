@@ -1,0 +1,18 @@
+//! Point-based backups (Spaan and Vlassis 2005) on decision diagrams, with floors in the stated order.
+//!
+//! `point_backup` answers what `sp_theory` calls the backup at a belief on an edition, with its floored one-step value;
+//! `assemble` that value for given links.
+#![tactic(auto)]
+
+mod assembling;
+mod backups;
+mod choosing;
+mod models;
+mod moving;
+mod projections;
+mod seeing;
+mod stepping;
+
+pub use assembling::assemble;
+pub use backups::point_backup;
+pub use projections::Projections;

@@ -1,0 +1,16 @@
+pub mod RoleLemmas
+pub mod AcceptedLemmas
+pub mod OwnLemmas
+pub mod TableLemmas
+pub mod InitialLemmas
+pub mod ItemLemmas
+pub mod ListingLemmas
+pub mod ActionLemmas
+pub mod SectionLemmas
+pub mod FinishLemmas
+pub mod FactorLemmas
+pub mod StateLemmas
+pub mod ModelLemmas
+pub mod WordLemmas
+pub mod StartLemmas
+pub mod ReadingLemmas

@@ -1,0 +1,11 @@
+use Rattle.std.proofs.Common.{◌≡◌, drop}
+use Rattle.sp_declarations.specs.Steps.{in_turn}
+use Rattle.sp_checks.specs.Kept.{IsListing}
+use Rattle.sp_checks.specs.Actions as spec
+use Rattle.sp_checks.proofs.items.items.Given as goal
+
+abbrev pub invariant-loop-next : goal.invariant-loop-next
+invariant-loop-next l = record {
+  value : in_turn (spec.item l.env l.source) l.listed (drop l.next-index l.list) ≡ spec.items l.env l.source l.action l.list;
+  listed : IsListing l.env l.listed;
+}

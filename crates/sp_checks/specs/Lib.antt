@@ -1,0 +1,9 @@
+pub mod Roles
+pub mod Kept
+pub mod Accepted
+pub mod Initial
+pub mod Actions
+pub mod Sections
+pub mod Finish
+pub mod Source
+pub mod Meaning

@@ -1,0 +1,40 @@
+use Rattle.std.proofs.Common.{◌≡◌, ◌∙◌, sym, ap, subst, rules, arith, List, [], ◌∷◌, ◌++◌, length, length-append, vec_len}
+use Rattle.std.proofs.lemmas.List.{with_items_is, places, length-map}
+use Rattle.std.proofs.lemmas.List.Elements.{All-push}
+use Rattle.std.specs.Arc.{arc_value}
+use Rattle.sp_model.specs.Problem.{vector_of}
+use Rattle.sp_value.specs.declared.editions.Member.{Member}
+use Rattle.sp_value.specs.Tasks.{TaskParts, task_of}
+use Rattle.sp_value.specs.Editions.{EditionParts, IsEdition, IsMemberOf}
+use Rattle.sp_core.specs.Accounts.{AreWorths}
+use Rattle.sp_core.proofs.Preparing.{up_same}
+use Rattle.sp_core.proofs.ledger.Ledger.due.Goals as goal
+
+pub shared_edition-requires : goal.shared_edition-requires
+shared_edition-requires c =
+    let s = c.args.self.now in
+    let x : Member = record { id = c.args.id; action = c.args.action; vector = c.args.vector.now } in
+    subst (λ (xs : List Member). IsEdition (record { number = c.len-number.result; task = arc_value s.task; members = xs })) (sym (c.in_ok-members.ensures ∙ ap (λ (xs : List Member). xs ++ x ∷ []) c.deref-5.ensures.value)) (record {
+      task = c.requires.ledger.task;
+      some = omega (arith, length-append s.grown.items (x ∷ []));
+      different = c.requires.different;
+      members = All-push (IsMemberOf (arc_value s.task).model) s.grown.items x c.requires.ledger.grown c.requires.member;
+    })
+
+pub returns-clause-entry : goal.returns-clause-entry
+returns-clause-entry c =
+    let s = c.args.self.now in
+    let x : Member = record { id = c.args.id; action = c.args.action; vector = c.args.vector.now } in
+    let final = with_items_is s.worths c.weigh.new.worths (search (rules, places)) in
+    let long : vec_len s.editions ≡ length s.editions.items = search (rules, places) in
+    let number = c.len-number.ensures ∙ long ∙ sym (length-map s.editions.items arc_value) in
+    let members = c.in_ok-members.ensures ∙ ap (λ (xs : List Member). xs ++ x ∷ []) c.deref-5.ensures.value in
+    record {
+      known = c.requires.member;
+      worths = subst (AreWorths (task_of (arc_value s.task)) (vector_of (arc_value s.task).model c.args.vector.now)) (sym final)
+          (subst (λ (t : TaskParts). AreWorths (task_of t) (vector_of t.model c.args.vector.now) c.weigh.new.worths) c.deref.ensures c.in_ok-weigh.ensures);
+      due = (
+        up_same _ _ _ _ _ _ c.deref-2.ensures.value c.deref-3.ensures.value c.deref-4.ensures.value c.if-not-are_all_raised.ensures,
+        c.in_ok-edition.ensures ∙ (λ i. let r : EditionParts = record { number = number i; task = arc_value s.task; members = members i } in r),
+      );
+    }

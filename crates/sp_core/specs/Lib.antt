@@ -1,0 +1,12 @@
+pub mod Accounts
+pub mod Running
+pub mod Marks
+pub mod Drops
+pub mod Choices
+pub mod Books
+pub mod Ledgers
+pub mod Opening
+pub mod Settling
+pub mod Plans
+pub mod Pruning
+pub mod Laws

@@ -1,0 +1,4 @@
+pub mod StepLemmas
+pub mod DeclarationLemmas
+pub mod NameLemmas
+pub mod DeclaredLemmas

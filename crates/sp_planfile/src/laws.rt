@@ -1,0 +1,8 @@
+//! What holds of the text of a plan. The function does nothing: its contract is the law.
+
+ghost use Rattle.sp_planfile.specs.RunText.{TextTellsEvents};
+
+/// Different events have different texts.
+pub fn text_tells_events()
+    ensures { TextTellsEvents }
+{}

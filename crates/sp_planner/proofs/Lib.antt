@@ -1,0 +1,9 @@
+pub mod SameMarks
+pub mod Due
+pub mod Backing
+pub mod Turning
+pub mod Running
+pub mod Pruning
+pub mod Finished
+pub mod Totals
+pub mod Numbers

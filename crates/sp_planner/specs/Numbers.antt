@@ -1,0 +1,11 @@
+-- The value of an edition at the initial belief.
+use Rattle.std.specs.Prelude.{ℤ}
+use Rattle.sp_theory.specs.Sums.{floor}
+use Rattle.sp_theory.specs.Values.{Edition, value}
+use Rattle.sp_theory.specs.Scaling.{total_weight}
+use Rattle.sp_model.specs.Problem.{problem}
+use Rattle.sp_value.specs.Tasks.{TaskParts, weights_at}
+
+-- in ticks, rounded down
+abbrev pub value_at_first : TaskParts → Edition → ℤ
+value_at_first t edition = floor (value (problem t.model) edition (weights_at t 0)) (total_weight (problem t.model) (weights_at t 0))

@@ -1,0 +1,4 @@
+pub mod LeafLemmas
+pub mod RowLemmas
+pub mod KeptLemmas
+pub mod LawLemmas

@@ -1,0 +1,51 @@
+//! Ticks as decimals.
+
+ghost use Rattle.std.specs.Prelude.{◌≡◌, IfOk, string_bytes};
+ghost use Rattle.sp_show.specs.Decimals.{decimal_of, sign_text};
+
+use sp_dd::NoMemory;
+use std::alloc::Global;
+
+/// The decimal of a number of ticks of 10^-9: `-` where it is negative, the whole part, a point, and nine digits.
+pub fn decimal(alloc: Global, ticks: i128) -> Result<String, NoMemory>
+    ensures { IfOk result (λ text. string_bytes text ≡ decimal_of ticks) }
+{
+    let magnitude = ticks.unsigned_abs();
+    let whole = magnitude / 1_000_000_000;
+    let fraction = magnitude % 1_000_000_000;
+    let sign = sign_of(ticks);
+    let text = format!(in alloc; "{sign}{whole}.{fraction:09}")?;
+    Ok(text)
+}
+
+/// What stands before the digits.
+fn sign_of(ticks: i128) -> &'static str
+    ensures { result.now ≡ sign_text ticks }
+{
+    if ticks < 0 { "-" } else { "" }
+}
+
+#[cfg(test)]
+mod tests {
+    use super::*;
+    use std::test::Fail;
+
+    // Written out by hand.
+    #[test]
+    fn ticks_are_decimals(rt: HostRuntime) -> Result<(), Fail> {
+        let rows = [
+            (0, "0.000000000"),
+            (1, "0.000000001"),
+            (-1, "-0.000000001"),
+            (850_000_000, "0.850000000"),
+            (1_010_000_000, "1.010000000"),
+            (-2_000_000_000_000, "-2000.000000000"),
+            (-3_333_333_334, "-3.333333334"),
+            (-1_000_000_000_000_000_000, "-1000000000.000000000"),
+        ];
+        for (ticks, text) in &rows {
+            assert_eq!(rt; decimal(rt.alloc(), *ticks)?.as_str(), *text);
+        }
+        Ok(())
+    }
+}

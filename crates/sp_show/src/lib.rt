@@ -1,0 +1,6 @@
+//! Texts of a model's numbers.
+#![tactic(auto)]
+
+mod decimals;
+
+pub use decimals::decimal;

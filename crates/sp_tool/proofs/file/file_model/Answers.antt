@@ -1,0 +1,11 @@
+use Rattle.std.proofs.Common.{◌≡◌, ◌∙◌, inl, ap, rules}
+use Rattle.sp_tool.specs.Table.{model_limit}
+use Rattle.sp_tool.specs.Lines.{too_long_line}
+use Rattle.sp_tool.proofs.TableLemmas.{some_longer, file_hindered}
+use Rattle.sp_tool.proofs.file.file_model.Goals as goal
+
+pub returns-in-Err-TooLong-clause-fault : goal.returns-in-Err-TooLong-clause-fault
+returns-in-Err-TooLong-clause-fault g c =
+    let limit : c.in-Err-TooLong.limit ≡ model_limit = search rules in
+    let longer = some_longer ((g.S.Store.folder c.args.store.now).content c.args.file.now) model_limit (λ bytes told. search rules) in
+    (longer.0, longer.1, inl (longer.2, c.in_ok-line-in-Err-TooLong.ensures ∙ ap (too_long_line c.args.file.now) limit))

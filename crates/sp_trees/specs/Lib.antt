@@ -1,0 +1,12 @@
+pub mod Refusals
+pub mod Slots
+pub mod Words
+pub mod Dds
+pub mod Good
+pub mod Conditions
+pub mod Judged
+pub mod Single
+pub mod Lists
+pub mod Nodes
+pub mod Judge
+pub mod Values

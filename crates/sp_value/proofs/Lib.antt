@@ -1,0 +1,5 @@
+pub mod Greatest
+pub mod Vectors
+pub mod BestMember
+pub mod Links
+pub mod CandidateLaws

@@ -1,0 +1,7 @@
+pub mod Scores
+pub mod Tasks
+pub mod Editions
+pub mod Linked
+pub mod Candidates
+pub mod Laws
+pub mod Events

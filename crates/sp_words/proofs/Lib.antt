@@ -1,0 +1,5 @@
+pub mod WordLemmas
+pub mod ItemLemmas
+pub mod JobLemmas
+pub mod OneJob
+pub mod Possible

@@ -1,0 +1,6 @@
+use Rattle.std.proofs.Common.{map, string_bytes}
+use Rattle.sp_words.proofs.JobLemmas.{gen_other}
+use Rattle.sp_words.proofs.reading.generate.Goals as goal
+
+pub returns-in-None-clause-usage : goal.returns-in-None-clause-usage
+returns-in-None-clause-usage c = λ e. gen_other (map string_bytes c.args.words.now) c.in-None.ensures

@@ -1,0 +1,89 @@
+//! What the words of a command line ask for.
+
+ghost use Rattle.std.specs.Prelude.{◌≡◌, IfOk};
+
+use std::alloc::{AllocError, Global};
+use std::marker::Model;
+
+/// The name of a file, as it stands on the command line.
+#[derive(Drop)]
+pub struct Name {
+    text: String,
+}
+
+impl Model for Name {
+    ghost use Rattle.std.specs.Prelude.{List, ℕ, string_bytes};
+
+    ghost Value = { List ℕ };
+
+    ghost view = { λ n. string_bytes n.text };
+}
+
+impl Name {
+    /// The name of this text.
+    pub fn new(alloc: Global, text: &str) -> Result<Name, AllocError>
+        ensures { IfOk result (λ name. name ≡ text.now) }
+    {
+        let text = text.to_string(alloc)?;
+        Ok(Name { text })
+    }
+
+    /// Its text. Takes no memory.
+    pub fn as_str(&self) -> &str
+        ensures { result.now ≡ self.now }
+    {
+        self.text.as_str()
+    }
+}
+
+/// What `plan` is asked for.
+#[derive(Drop)]
+pub struct PlanWords {
+    /// The name of the model file.
+    pub model: Name,
+    /// How many beliefs are sampled: 1 to 4096.
+    pub beliefs: u64,
+    /// After how many steps a sampled trajectory starts anew: 1 to 4096.
+    pub depth: u64,
+    /// How many stages are made: 1 to 1000.
+    pub stages: u64,
+    /// The seed of the random words.
+    pub seed: u64,
+    /// How many threads plan beside the caller; none, today.
+    pub workers: u64,
+    /// Whether dominated vectors are dropped after each stage.
+    pub prune: bool,
+    /// Whether the sampled beliefs explore the actions in turn, and not at random.
+    pub sweep: bool,
+}
+
+/// A command with what its words say.
+#[derive(Drop)]
+pub enum Job {
+    /// Plan for the model of a file.
+    Plan(PlanWords),
+    /// Judge a model file.
+    Check { model: Name },
+    /// Write the generated model of a number.
+    Gen { number: u64 },
+    /// Plan for the generated model of a number, and write a summary.
+    Trial { number: u64 },
+}
+
+/// Why words ask for nothing.
+#[derive(Clone, Copy, Debug, Drop, PartialEq, Eq)]
+pub enum WordsError {
+    /// They are those of no command.
+    Usage,
+    NoMemory,
+}
+
+impl From<AllocError> for WordsError {
+    ghost use Rattle.sp_words.specs.declared.job.WordsError.{WordsError};
+
+    ghost from_gives = { λ _ e. e ≡ WordsError.NoMemory };
+
+    fn from(_: AllocError) -> Self {
+        WordsError::NoMemory
+    }
+}

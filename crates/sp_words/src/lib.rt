@@ -1,0 +1,13 @@
+//! The words of the command line: which commands there are, and what they ask for.
+#![tactic(auto)]
+
+mod job;
+mod laws;
+mod pieces;
+mod reading;
+#[cfg(test)]
+mod tests;
+
+pub use job::{Job, Name, PlanWords, WordsError};
+pub use laws::words_ask_once;
+pub use reading::read_words;

@@ -1,0 +1,209 @@
+//! Reads the words of a command line.
+
+ghost use Rattle.std.specs.Prelude.{◌≡◌, ◌≢◌, ℕ, List, ◌∷◌, codes, map, cond, IfOk, MatchOption, string_bytes, Err, Bool};
+ghost use Rattle.sp_words.specs.Pieces.{item_of};
+ghost use Rattle.sp_words.specs.Jobs.{Asks, AsksBehind, IsPlan, HasExplore, IsPlacedAlone, IsNumberAlone, IsPossible, command_of};
+ghost use Rattle.sp_words.specs.Items.{HasFlag};
+ghost use Rattle.sp_words.specs.declared.job.Job.{Job};
+ghost use Rattle.sp_words.specs.declared.job.PlanWords.{PlanWords};
+
+use crate::job::{Job, Name, PlanWords, WordsError};
+use crate::pieces::{
+    Piece, flag_count, is_name, lacks, number_in, number_of, only_place, only_value, pieces_of,
+};
+use std::alloc::Global;
+
+/// What the words of a call ask for.
+#[tactic(auto, using(crate::proofs::Possible::behind_possible))]
+pub fn read_words(alloc: Global, words: &[String]) -> Result<Job, WordsError>
+    ensures asks { IfOk result (λ job. Asks (map string_bytes words.now) job) }
+    ensures possible { IfOk result IsPossible }
+    ensures usage { result ≡ Err WordsError.Usage → (job : Job) → ¬ (Asks (map string_bytes words.now) job) }
+{
+    if let Some(rest) = words_behind(words, "plan") {
+        return plan(alloc, rest);
+    }
+    if let Some(rest) = words_behind(words, "check") {
+        return check(alloc, rest);
+    }
+    if let Some(rest) = words_behind(words, "gen") {
+        return generate(rest);
+    }
+    if let Some(rest) = words_behind(words, "trial") {
+        return trial(rest);
+    }
+    Err(WordsError::Usage)
+}
+
+/// The words behind the command, if it is this one.
+fn words_behind<'a>(words: &'a [String], command: &str) -> Option<&'a [String]>
+    ensures { MatchOption result ((rest : List (List ℕ)) → ¬ (map string_bytes words.now ≡ command.now ∷ rest)) (λ r. map string_bytes words.now ≡ command.now ∷ map string_bytes r.now) }
+{
+    let (first, rest) = words.split_first()?;
+    if first.as_str() == command {
+        Some(rest)
+    } else {
+        None
+    }
+}
+
+/// The plan that the words behind the command ask for.
+fn plan(alloc: Global, words: &[String]) -> Result<Job, WordsError>
+    ensures asks { IfOk result (λ job. (command_of job ≡ codes "plan") × AsksBehind (map string_bytes words.now) job) }
+    ensures usage { result ≡ Err WordsError.Usage → (job : Job) → command_of job ≡ codes "plan" → ¬ (AsksBehind (map string_bytes words.now) job) }
+{
+    let options = [
+        "--beliefs",
+        "--depth",
+        "--stages",
+        "--seed",
+        "--workers",
+        "--explore",
+    ];
+    let pieces = match pieces_of(alloc, words, &options, &["--prune"]) {
+        Ok(pieces) => pieces,
+        Err(error) => return Err(error),
+    };
+    match plan_in(alloc, &pieces) {
+        Ok(plan) => Ok(Job::Plan(plan)),
+        Err(error) => Err(error),
+    }
+}
+
+/// The plan that pieces ask for.
+fn plan_in(alloc: Global, pieces: &[Piece<'_>]) -> Result<PlanWords, WordsError>
+    ensures plan { IfOk result (λ p. IsPlan (map item_of pieces.now) p) }
+    ensures usage { result ≡ Err WordsError.Usage → (p : PlanWords) → ¬ (IsPlan (map item_of pieces.now) p) }
+{
+    let Some(model) = only_place(pieces) else {
+        return Err(WordsError::Usage);
+    };
+    let Some(beliefs) = number_of(pieces, "--beliefs", 1, 4096) else {
+        return Err(WordsError::Usage);
+    };
+    let Some(depth) = number_of(pieces, "--depth", 1, 4096) else {
+        return Err(WordsError::Usage);
+    };
+    let Some(stages) = number_of(pieces, "--stages", 1, 1000) else {
+        return Err(WordsError::Usage);
+    };
+    let Some(seed) = number_of(pieces, "--seed", 0, u64::MAX) else {
+        return Err(WordsError::Usage);
+    };
+    let Some(workers) = number_of(pieces, "--workers", 0, 0) else {
+        return Err(WordsError::Usage);
+    };
+    let Some(prune) = flag_of(pieces, "--prune") else {
+        return Err(WordsError::Usage);
+    };
+    let Some(sweep) = explore_of(pieces) else {
+        return Err(WordsError::Usage);
+    };
+    let model = Name::new(alloc, model)?;
+    Ok(PlanWords {
+        model,
+        beliefs,
+        depth,
+        stages,
+        seed,
+        workers,
+        prune,
+        sweep,
+    })
+}
+
+/// Whether a flag is there, if it isn't there more than once.
+fn flag_of(pieces: &[Piece<'_>], flag: &str) -> Option<bool>
+    ensures { MatchOption result ((is : Bool) → ¬ (HasFlag (map item_of pieces.now) flag.now is)) (λ is. HasFlag (map item_of pieces.now) flag.now is) }
+{
+    match flag_count(pieces, flag) {
+        0 => Some(false),
+        1 => Some(true),
+        _ => None,
+    }
+}
+
+/// Whether the actions are explored in turn, if the words say one way.
+fn explore_of(pieces: &[Piece<'_>]) -> Option<bool>
+    ensures { MatchOption result ((sweep : Bool) → ¬ (HasExplore (map item_of pieces.now) sweep)) (λ sweep. HasExplore (map item_of pieces.now) sweep) }
+{
+    if lacks(pieces, "--explore") {
+        return Some(false);
+    }
+    match only_value(pieces, "--explore") {
+        None => None,
+        Some(value) => sweep_in(value),
+    }
+}
+
+/// Whether a word names the exploring in turn, if it names a way.
+fn sweep_in(word: &str) -> Option<bool>
+    ensures { MatchOption result ((word.now ≢ codes "uniform") × (word.now ≢ codes "sweep")) (λ sweep. word.now ≡ cond sweep (codes "sweep") (codes "uniform")) }
+{
+    if word == "uniform" {
+        return Some(false);
+    }
+    if word == "sweep" { Some(true) } else { None }
+}
+
+/// The one word by itself behind a command without options.
+fn place_behind<'a>(words: &'a [String]) -> Option<&'a str>
+    ensures { MatchOption result ((word : List ℕ) → ¬ (IsPlacedAlone (map string_bytes words.now) word)) (λ word. IsPlacedAlone (map string_bytes words.now) word.now) }
+{
+    match words {
+        [word] => {
+            if word.is_empty() || is_name(word.as_str()) {
+                None
+            } else {
+                Some(word.as_str())
+            }
+        }
+        _ => None,
+    }
+}
+
+/// The check that the words behind the command ask for.
+fn check(alloc: Global, words: &[String]) -> Result<Job, WordsError>
+    ensures asks { IfOk result (λ job. (command_of job ≡ codes "check") × AsksBehind (map string_bytes words.now) job) }
+    ensures usage { result ≡ Err WordsError.Usage → (job : Job) → command_of job ≡ codes "check" → ¬ (AsksBehind (map string_bytes words.now) job) }
+{
+    match place_behind(words) {
+        Some(model) => {
+            let model = Name::new(alloc, model)?;
+            Ok(Job::Check { model })
+        }
+        None => Err(WordsError::Usage),
+    }
+}
+
+/// The number behind a command that takes one.
+fn number_behind(words: &[String]) -> Option<u64>
+    ensures { MatchOption result ((n : ℕ) → ¬ (IsNumberAlone (map string_bytes words.now) n)) (λ n. IsNumberAlone (map string_bytes words.now) n) }
+{
+    match place_behind(words) {
+        Some(word) => number_in(word, 0, 16),
+        None => None,
+    }
+}
+
+/// The generated model that the words behind the command ask for.
+fn generate(words: &[String]) -> Result<Job, WordsError>
+    ensures asks { IfOk result (λ job. (command_of job ≡ codes "gen") × AsksBehind (map string_bytes words.now) job) }
+    ensures usage { result ≡ Err WordsError.Usage → (job : Job) → command_of job ≡ codes "gen" → ¬ (AsksBehind (map string_bytes words.now) job) }
+{
+    match number_behind(words) {
+        Some(number) => Ok(Job::Gen { number }),
+        None => Err(WordsError::Usage),
+    }
+}
+
+/// The trial that the words behind the command ask for.
+fn trial(words: &[String]) -> Result<Job, WordsError>
+    ensures asks { IfOk result (λ job. (command_of job ≡ codes "trial") × AsksBehind (map string_bytes words.now) job) }
+    ensures usage { result ≡ Err WordsError.Usage → (job : Job) → command_of job ≡ codes "trial" → ¬ (AsksBehind (map string_bytes words.now) job) }
+{
+    match number_behind(words) {
+        Some(number) => Ok(Job::Trial { number }),
+        None => Err(WordsError::Usage),
+    }
+}
