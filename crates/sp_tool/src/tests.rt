@@ -6,11 +6,15 @@ use sp_choose::{Chooser, Sweep, Uniform};
 use sp_dd::Ids;
 use sp_outside::{Files, MemSink, MemStore};
 use std::alloc::{AllocError, Global};
+use std::process::Abort;
 use std::test::Fail;
 
 mod models;
+mod refusals;
+mod rows;
 
-use models::{ACTIONS, DOORS, HALF, HEARD, HEARS, NEXT, PATH, PLACE, ROBOT, TIGER, WORTH};
+use models::{ROBOT, TIGER};
+use refusals::Refusal;
 
 const WORDS: &str = "plan m.txt --beliefs 1 --depth 1 --stages 1 --seed 7 --workers 0";
 
@@ -60,233 +64,6 @@ const USAGE: Row = Row {
     line: "perseus: usage: perseus plan MODEL --beliefs N --depth D --stages N --seed S --workers 0 [--prune] [--explore uniform|sweep], perseus check MODEL, perseus gen NUMBER, or perseus trial NUMBER\n",
     ..LISTENS
 };
-
-const ROWS: [Row; 41] = [
-    LISTENS,
-    // two stages, with and without pruning; an edition of one member loses none
-    Row {
-        words: "plan m.txt --beliefs 1 --depth 1 --stages 2 --seed 7 --workers 0",
-        text: "events 5\nsettle 0 0 0 0 0\npublish\nsettle 0 1 0 1 1\npublish\nend\nsessions 0\ndone\n",
-        ..LISTENS
-    },
-    Row {
-        words: "plan --prune --stages 2 --explore sweep --seed 7 m.txt --workers 0 --beliefs 1 --depth 1",
-        text: "events 5\nsettle 0 0 0 0 0\npublish\nsettle 0 1 0 1 1\npublish\nend\nsessions 0\ndone\n",
-        ..LISTENS
-    },
-    // a stage in which two vectors enter, of which one is nowhere above the other
-    Row {
-        words: "plan m.txt --beliefs 3 --depth 1 --stages 3 --seed 6 --workers 0 --prune",
-        model: &[PATH],
-        text: "events 9\nsettle 2 0 1 0 0\npublish\nsettle 0 1 0 1 1\nsettle 1 1 1 1 1\npublish\nprune 2 3\nsettle 2 3 1 3 3\npublish\nend\nsessions 0\ndone\n",
-        ..LISTENS
-    },
-    // one state and one observation, three stages
-    Row {
-        words: "plan m.txt --beliefs 1 --depth 1 --stages 3 --seed 7 --workers 0",
-        model: &[PLACE, "-1", NEXT, "-1", HALF],
-        text: "events 7\nsettle 0 0 0 0\npublish\nsettle 0 1 0 1\npublish\nsettle 0 2 0 2\npublish\nend\nsessions 0\ndone\n",
-        ..LISTENS
-    },
-    Row {
-        model: &[PLACE, "-1", NEXT, "-1000000", HALF],
-        text: "events 3\nsettle 0 0 1 0\npublish\nend\nsessions 0\ndone\n",
-        ..LISTENS
-    },
-    // without a discount only the reward counts
-    Row {
-        model: &[DOORS, "0.5)) (right (0.5", ACTIONS, "0.0"],
-        ..LISTENS
-    },
-    // at 95 in 100 the other door is opened
-    Row {
-        model: &[DOORS, "0.95)) (right (0.05", ACTIONS, "0.999"],
-        text: "events 3\nsettle 0 0 2 0 0\npublish\nend\nsessions 0\ndone\n",
-        ..LISTENS
-    },
-    // the numbers of models
-    Row {
-        words: CHECK,
-        text: "ok variables 1 states 2 observations 2 actions 3 least -2000.000000000 units 7\n",
-        ..LISTENS
-    },
-    Row {
-        words: CHECK,
-        model: ROBOT,
-        text: "ok variables 6 states 96 observations 6 actions 3 least -150.000000000 units 57\n",
-        ..LISTENS
-    },
-    Row {
-        words: CHECK,
-        model: &[PLACE, "-1", NEXT, "1", "))) endaction discount 0.7"],
-        text: "ok variables 1 states 1 observations 1 actions 2 least -3.333333334 units 5\n",
-        ..LISTENS
-    },
-    Row {
-        words: CHECK,
-        model: &[PLACE, "1000000", NEXT, "1", "))) endaction discount 0.999"],
-        text: "ok variables 1 states 1 observations 1 actions 2 least -1000000000.000000000 units 5\n",
-        ..LISTENS
-    },
-    // a reward on the next state
-    Row {
-        words: CHECK,
-        model: &[WORTH, "(x' (a (0.0)) (b (3.0)))"],
-        text: "ok variables 1 states 2 observations 1 actions 1 least 0.000000000 units 5\n",
-        ..LISTENS
-    },
-    Row {
-        words: CHECK,
-        model: &[WORTH, "(o' (y (1.0)))"],
-        line: "perseus: refused: m.txt: byte 168: BadScope\n",
-        ..REFUSED
-    },
-    // words of no command; a fault of err changes no status
-    Row { words: "", ..USAGE },
-    Row {
-        words: "show m.txt",
-        ..USAGE
-    },
-    Row {
-        words: "plan m.txt --beliefs 0 --depth 1 --stages 1 --seed 7 --workers 0",
-        ..USAGE
-    },
-    Row {
-        words: "plan m.txt --beliefs 1 --depth 1 --stages 1 --seed 7 --workers 1",
-        ..USAGE
-    },
-    Row {
-        words: "gen 17",
-        ..USAGE
-    },
-    Row {
-        words: "plan",
-        failing_lines: &[1],
-        line: "",
-        ..USAGE
-    },
-    // out takes few bytes at once, and fails
-    Row {
-        most: 16,
-        ..LISTENS
-    },
-    Row {
-        most: 16,
-        failing_writes: &[3],
-        status: 5,
-        text: "events 3\nsettle 0 0 0 0 0\npublis",
-        line: "perseus: cannot write\n",
-        ..LISTENS
-    },
-    Row {
-        most: 64,
-        failing_writes: &[1],
-        status: 5,
-        text: "",
-        line: "perseus: cannot write\n",
-        ..LISTENS
-    },
-    // a read fails, or there is no such file
-    Row {
-        failing_reads: &[1],
-        status: 4,
-        text: "",
-        line: "perseus: cannot read m.txt\n",
-        ..LISTENS
-    },
-    Row {
-        failing_reads: &[2],
-        status: 4,
-        text: "",
-        line: "perseus: cannot read m.txt\n",
-        ..LISTENS
-    },
-    Row {
-        failing_reads: &[3],
-        ..LISTENS
-    },
-    Row {
-        words: "check n.txt",
-        status: 4,
-        text: "",
-        line: "perseus: cannot read n.txt\n",
-        ..LISTENS
-    },
-    // tokens and grammar
-    Row {
-        model: &["(variables"],
-        line: "perseus: refused: m.txt: byte 10: Unclosed\n",
-        ..REFUSED
-    },
-    Row {
-        model: &[""],
-        line: "perseus: refused: m.txt: byte 0: Unexpected\n",
-        ..REFUSED
-    },
-    Row {
-        model: &["(variables (a \u{e9}))"],
-        line: "perseus: refused: m.txt: byte 14: NotAscii\n",
-        ..REFUSED
-    },
-    Row {
-        model: &["(variables (a x)) (observations (o y)) unnormalized"],
-        line: "perseus: refused: m.txt: byte 39: Unsupported\n",
-        ..REFUSED
-    },
-    // rules
-    Row {
-        words: CHECK,
-        model: &["(variables (a x)) (observations (o y))"],
-        line: "perseus: refused: m.txt: byte 38: MissingPart\n",
-        ..REFUSED
-    },
-    Row {
-        model: &[HEARS, "0.16", HEARD],
-        line: "perseus: refused: m.txt: byte 91: RowSum listen hear row 0 sum 1.010000000\n",
-        ..REFUSED
-    },
-    Row {
-        model: &[HEARS, "0.14", HEARD],
-        line: "perseus: refused: m.txt: byte 91: RowSum listen hear row 0 sum 0.990000000\n",
-        ..REFUSED
-    },
-    Row {
-        model: &[DOORS, "0.5)) (right (0.49", ACTIONS, "0.95"],
-        line: "perseus: refused: m.txt: byte 69: InitSum sum 0.990000000\n",
-        ..REFUSED
-    },
-    Row {
-        model: &[DOORS, "1.1)) (right (-0.1", ACTIONS, "0.95"],
-        line: "perseus: refused: m.txt: byte 69: BadProbability\n",
-        ..REFUSED
-    },
-    Row {
-        model: &[DOORS, "0.3333333333)) (right (0.5", ACTIONS, "0.95"],
-        line: "perseus: refused: m.txt: byte 83: TooFine\n",
-        ..REFUSED
-    },
-    Row {
-        model: &[PLACE, "1", NEXT, "1", "))) endaction discount 0.999000001"],
-        line: "perseus: refused: m.txt: byte 299: DiscountRange\n",
-        ..REFUSED
-    },
-    Row {
-        model: &[PLACE, "1", NEXT, "1000000.000000001", HALF],
-        line: "perseus: refused: m.txt: byte 318: RewardRange\n",
-        ..REFUSED
-    },
-    // a trial
-    Row {
-        words: "trial 0",
-        text: "trial 0\nstates 256\nbeliefs 100\nstages 5\nrecords 6\neditions 6\nmembers 1\nvalue 4.122697812\n",
-        ..LISTENS
-    },
-    Row {
-        words: "trial 2",
-        text: "trial 2\nstates 1024\nbeliefs 100\nstages 5\nrecords 6\neditions 6\nmembers 1\nvalue 4.122697812\n",
-        ..LISTENS
-    },
-];
 
 /// A list of these numbers.
 fn ids(alloc: Global, numbers: &[u64]) -> Result<Ids, Fail> {
@@ -350,16 +127,159 @@ fn joined(alloc: Global, pieces: &[&str]) -> Result<String, AllocError> {
     Ok(text)
 }
 
-#[test]
-fn answers_as_stated(rt: HostRuntime) -> Result<(), Fail> {
-    let alloc = rt.alloc();
-    for (place, row) in ROWS.iter().enumerate() {
+/// Makes each of these calls twice, and compares what it gives.
+fn compare(alloc: Global, rt: &impl Abort, rows: &[Row]) -> Result<(), Fail> {
+    for (place, row) in rows.iter().enumerate() {
         let model = joined(alloc, row.model)?;
         let given = call(alloc, row, model.as_bytes())?;
         assert_eq!(rt; given.err.text(), row.line.as_bytes(), "row {place}");
         assert_eq!(rt; given.out.text(), row.text.as_bytes(), "row {place}");
         assert_eq!(rt; given.status.number(), row.status, "row {place}");
+        let again = call(alloc, row, model.as_bytes())?;
+        assert_eq!(rt; again.out.text(), given.out.text(), "row {place}");
     }
+    Ok(())
+}
+
+#[test]
+fn models_are_planned(rt: HostRuntime) -> Result<(), Fail> {
+    compare(rt.alloc(), &rt, &rows::plans())
+}
+
+#[test]
+fn models_are_measured(rt: HostRuntime) -> Result<(), Fail> {
+    compare(rt.alloc(), &rt, &rows::measures())
+}
+
+#[test]
+fn words_are_judged(rt: HostRuntime) -> Result<(), Fail> {
+    compare(rt.alloc(), &rt, &rows::usage())
+}
+
+#[test]
+fn faults_are_told(rt: HostRuntime) -> Result<(), Fail> {
+    compare(rt.alloc(), &rt, &rows::faults())
+}
+
+#[test]
+fn trials_are_summed_up(rt: HostRuntime) -> Result<(), Fail> {
+    compare(rt.alloc(), &rt, &rows::trials())
+}
+
+/// Checks a text that is refused where its second part begins.
+fn refuse(
+    alloc: Global,
+    rt: &impl Abort,
+    before: &str,
+    from: &str,
+    kind: &str,
+) -> Result<(), Fail> {
+    let text = joined(alloc, &[before, from])?;
+    let row = Row {
+        words: CHECK,
+        ..REFUSED
+    };
+    let given = call(alloc, &row, text.as_bytes())?;
+    let at = before.len();
+    let line = format!(in alloc; "perseus: refused: m.txt: byte {at}: {kind}\n")?;
+    assert_eq!(rt; given.err.text(), line.as_bytes(), "{kind} at {at}");
+    assert_eq!(rt; given.out.text().len(), 0);
+    assert_eq!(rt; given.status, Status::Refused);
+    Ok(())
+}
+
+/// Checks each of these texts.
+fn refuse_all(alloc: Global, rt: &impl Abort, refusals: &[Refusal]) -> Result<(), Fail> {
+    for refusal in refusals {
+        let before = joined(alloc, refusal.before)?;
+        let from = joined(alloc, refusal.from)?;
+        refuse(alloc, rt, before.as_str(), from.as_str(), refusal.kind)?;
+    }
+    Ok(())
+}
+
+#[test]
+fn texts_are_refused(rt: HostRuntime) -> Result<(), Fail> {
+    refuse_all(rt.alloc(), &rt, &refusals::texts())?;
+    refuse_all(rt.alloc(), &rt, &refusals::names())?;
+    refuse_all(rt.alloc(), &rt, &refusals::parts())
+}
+
+#[test]
+fn values_are_refused(rt: HostRuntime) -> Result<(), Fail> {
+    refuse_all(rt.alloc(), &rt, &refusals::numbers())?;
+    refuse_all(rt.alloc(), &rt, &refusals::probabilities())
+}
+
+/// So many pieces of a text, each with a word of two letters of its own.
+fn repeated(alloc: Global, count: u64, front: &str, back: &str) -> Result<String, AllocError> {
+    let mut text = String::new(alloc);
+    for k in 0..count {
+        text.push_str(front)?;
+        text.push(char::from(b'a' + (k / 26 % 26) as u8))?;
+        text.push(char::from(b'a' + (k % 26) as u8))?;
+        text.push_str(back)?;
+    }
+    Ok(text)
+}
+
+#[test]
+fn limits_are_told(rt: HostRuntime) -> Result<(), Fail> {
+    let alloc = rt.alloc();
+    for row in &refusals::limits() {
+        let many = repeated(alloc, row.count, row.piece.0, row.piece.1)?;
+        let before = joined(alloc, &[row.begin, many.as_str(), row.next])?;
+        refuse(alloc, &rt, before.as_str(), row.from, row.kind)?;
+    }
+    Ok(())
+}
+
+/// A model of eleven two-valued variables.
+fn eleven(alloc: Global) -> Result<String, AllocError> {
+    let names = repeated(alloc, 11, "(v", " x y) ")?;
+    let factors = repeated(alloc, 11, "(v", " (x (0.5)) (y (0.5))) ")?;
+    joined(
+        alloc,
+        &[
+            "(variables ",
+            names.as_str(),
+            ") (observations (o s)) init [* ",
+            factors.as_str(),
+            "] action go observe o (1) endobserve endaction discount 0.5",
+        ],
+    )
+}
+
+/// A reward that doubles another forty times, each by a tree with a name.
+fn doubled(alloc: Global) -> Result<String, AllocError> {
+    let mut text = joined(alloc, &[refusals::NAMES, refusals::START, refusals::GO])?;
+    text.push_str("dd d0 (0.0) enddd ")?;
+    for k in 0..40 {
+        let next = k + 1;
+        let line = format!(in alloc; "dd d{next} [+ (d{k}) (d{k})] enddd ")?;
+        text.push_str(line.as_str())?;
+    }
+    text.push_str("reward (d40) discount 0.5")?;
+    Ok(text)
+}
+
+#[test]
+fn large_texts_are_accepted(rt: HostRuntime) -> Result<(), Fail> {
+    let alloc = rt.alloc();
+    let row = Row {
+        words: CHECK,
+        ..LISTENS
+    };
+    let given = call(alloc, &row, eleven(alloc)?.as_bytes())?;
+    assert_eq!(rt;
+        given.out.text(),
+        b"ok variables 11 states 2048 observations 1 actions 1 least 0.000000000 units 25\n".as_slice()
+    );
+    let given = call(alloc, &row, doubled(alloc)?.as_bytes())?;
+    assert_eq!(rt;
+        given.out.text(),
+        b"ok variables 2 states 4 observations 2 actions 1 least 0.000000000 units 10\n".as_slice()
+    );
     Ok(())
 }
 

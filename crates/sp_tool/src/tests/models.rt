@@ -1,5 +1,8 @@
 //! Models of the tests.
 
+/// The declarations of the tiger problem.
+pub const TIGERS: &str = "(variables (tiger left right)) (observations (hear left right)) ";
+
 /// The tiger problem up to its opening belief: a door hides a tiger, and listening tells it rightly 85 times in 100.
 pub const DOORS: &str =
     "(variables (tiger left right)) (observations (hear left right)) init (tiger (left (";
@@ -39,9 +42,8 @@ pub const WORTH: &str =
 action go x (x' (a (0.5)) (b (0.5))) observe o (o' (y (1))) endobserve endaction
 reward ";
 
-/// The tiger problem up to a probability of listening.
-pub const HEARS: &str = "(variables (tiger left right)) (observations (hear left right))
-action listen observe hear (tiger' (left (hear' (left (0.85)) (right (";
+/// The rows of listening up to a probability.
+pub const HEARS: &str = "(tiger' (left (hear' (left (0.85)) (right (";
 
 /// Behind that probability.
 pub const HEARD: &str = ")))) (right (hear' (left (0.15)) (right (0.85))))) endobserve endaction";
