@@ -315,6 +315,27 @@ fn generated_models_are_accepted(rt: HostRuntime) -> Result<(), Fail> {
     Ok(())
 }
 
+/// A trial over 2^20 states, whose value no other program worked out.
+#[test]
+fn large_trials_repeat(rt: HostRuntime) -> Result<(), Fail> {
+    let alloc = rt.alloc();
+    let row = Row {
+        words: "trial 12",
+        ..LISTENS
+    };
+    let given = call(alloc, &row, b"")?;
+    assert_eq!(rt; given.status, Status::Done);
+    assert!(rt;
+        given
+            .out
+            .text()
+            .starts_with(b"trial 12\nstates 1048576\nbeliefs 100\nstages 5\n")
+    );
+    let again = call(alloc, &row, b"")?;
+    assert_eq!(rt; again.out.text(), given.out.text());
+    Ok(())
+}
+
 #[test]
 fn beginnings_are_judged(rt: HostRuntime) -> Result<(), Fail> {
     let alloc = rt.alloc();

@@ -1,0 +1,3 @@
+//! Worked examples.
+mod beliefs;
+mod texts_beliefs;
