@@ -140,12 +140,18 @@ pub fn parts() -> [Refusal; 10] {
             kind: "MissingPart",
         },
         Refusal {
-            before: &[NAMES, "init ("],
-            from: &["a' (x (1)) (y (0)))"],
+            before: &[
+                NAMES,
+                "init [* (a (x (1)) (y (0))) (b (u (0.5)) (v (0.5))) (",
+            ],
+            from: &["a' (x (1)) (y (0)))]"],
             kind: "BadScope",
         },
         Refusal {
-            before: &[NAMES, "init [* (a (x (1)) (y (0))) "],
+            before: &[
+                NAMES,
+                "init [* (a (x (1)) (y (0))) (b (u (0.5)) (v (0.5))) ",
+            ],
             from: &["(a (x (1)) (y (0)))]"],
             kind: "BadScope",
         },
