@@ -3,3 +3,5 @@ pub mod ItemLemmas
 pub mod JobLemmas
 pub mod OneJob
 pub mod Possible
+pub mod ParserLemmas
+pub mod CommandLemmas

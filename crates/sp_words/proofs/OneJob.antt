@@ -1,8 +1,10 @@
 -- Words ask for one job at most.
-use Rattle.std.proofs.Common.{◌≡◌, ◌≢◌, ℕ, ◌-◌, ◌^◌, ◌<◌, Bool, true, false, List, [], ◌∷◌, length, ap, sym, ◌∙◌, refl, codes, slice_index, arith, ◌⊎◌, inl, inr, cond}
+use Rattle.std.proofs.Common.{◌≡◌, ℕ, ◌-◌, ◌^◌, Bool, true, false, List, [], ◌∷◌, length, ap, sym, ◌∙◌, refl, codes, arith, inl, inr, cond, Option, Some}
 use Rattle.std.specs.Str.Parse.{digits_value}
-use Rattle.sp_words.specs.Items.{Item, words_of, values, HasNumber, HasFlag}
-use Rattle.sp_words.specs.Jobs.{plan_names, IsPlan, HasExplore, IsPlanned, IsNumberAlone, IsPlacedAlone, AsksBehind, Asks, AskOnce, command_of}
+use Rattle.sp_words.specs.Items.{Item, values, HasNumber, HasFlag}
+use Rattle.clap.specs.Words.{Row, first_of, subcommand_of}
+use Rattle.sp_words.specs.Apps.{tool_app}
+use Rattle.sp_words.specs.Jobs.{plan_names, IsPlan, HasExplore, IsPlanned, IsNumberAlone, IsPlacedAlone, AsksBehind, AsksByList, GivesNumber, GivesPlan, Gives, AsksByParser, AskOnce, command_of}
 use Rattle.sp_words.specs.declared.job.PlanWords.{PlanWords}
 use Rattle.sp_words.specs.declared.job.Job.{Job}
 use Rattle.sp_words.specs.declared.job.Job.TheVariants.{Plan, Check, Gen, Trial}
@@ -72,31 +74,92 @@ one_alone rest m n one two =
     let same = one_place rest one.0 two.0 one.1 two.1 in
     sym one.2.value ∙ ap (digits_value 10) same ∙ two.2.value
 
-one_behind : (rest : List (List ℕ)) (job other : Job) → command_of job ≡ command_of other → AsksBehind rest job → AsksBehind rest other → job ≡ other
-one_behind rest (Plan p) (Plan q) e one two =
+-- jobs of one command are the same, where those of each command are
+one_by : (P : Job → Type 0) → ((p q : PlanWords) → P (Plan p) → P (Plan q) → p ≡ q) → ((x y : List ℕ) → P (Check x) → P (Check y) → x ≡ y)
+    → ((m n : ℕ) → P (Gen m) → P (Gen n) → m ≡ n) → ((m n : ℕ) → P (Trial m) → P (Trial n) → m ≡ n)
+    → (job other : Job) → command_of job ≡ command_of other → P job → P other → job ≡ other
+one_by P plans checks gens trials (Plan p) (Plan q) e one two = ap Plan (plans p q one two)
+one_by P plans checks gens trials (Plan p) (Check model) e one two = absurd (differs (codes "check") (codes "plan") (sym e) (omega arith))
+one_by P plans checks gens trials (Plan p) (Gen n) e one two = absurd (differs (codes "gen") (codes "plan") (sym e) (omega arith))
+one_by P plans checks gens trials (Plan p) (Trial n) e one two = absurd (differs (codes "plan") (codes "trial") e (omega arith))
+one_by P plans checks gens trials (Check model) (Plan q) e one two = absurd (differs (codes "check") (codes "plan") e (omega arith))
+one_by P plans checks gens trials (Check model) (Check other) e one two = ap Check (checks model other one two)
+one_by P plans checks gens trials (Check model) (Gen n) e one two = absurd (differs (codes "check") (codes "gen") e (omega arith))
+one_by P plans checks gens trials (Check model) (Trial n) e one two = absurd (differs (codes "check") (codes "trial") e (omega arith))
+one_by P plans checks gens trials (Gen m) (Plan q) e one two = absurd (differs (codes "gen") (codes "plan") e (omega arith))
+one_by P plans checks gens trials (Gen m) (Check other) e one two = absurd (differs (codes "check") (codes "gen") (sym e) (omega arith))
+one_by P plans checks gens trials (Gen m) (Gen n) e one two = ap Gen (gens m n one two)
+one_by P plans checks gens trials (Gen m) (Trial n) e one two = absurd (differs (codes "gen") (codes "trial") e (omega arith))
+one_by P plans checks gens trials (Trial m) (Plan q) e one two = absurd (differs (codes "plan") (codes "trial") (sym e) (omega arith))
+one_by P plans checks gens trials (Trial m) (Check other) e one two = absurd (differs (codes "check") (codes "trial") (sym e) (omega arith))
+one_by P plans checks gens trials (Trial m) (Gen n) e one two = absurd (differs (codes "gen") (codes "trial") (sym e) (omega arith))
+one_by P plans checks gens trials (Trial m) (Trial n) e one two = ap Trial (trials m n one two)
+
+one_planned : (rest : List (List ℕ)) (p q : PlanWords) → IsPlanned rest p → IsPlanned rest q → p ≡ q
+one_planned rest p q one two =
     let items : one.items ≡ two.items = same_items plan_names one.items two.items one.each two.each (sym one.is ∙ two.is) in
     let says : IsPlan one.items q = rw (← items) at two.says in
-    ap Plan (one_plan one.items p q one.says says)
-one_behind rest (Plan p) (Check model) e one two = absurd (differs (codes "check") (codes "plan") (sym e) (omega arith))
-one_behind rest (Plan p) (Gen n) e one two = absurd (differs (codes "gen") (codes "plan") (sym e) (omega arith))
-one_behind rest (Plan p) (Trial n) e one two = absurd (differs (codes "plan") (codes "trial") e (omega arith))
-one_behind rest (Check model) (Plan q) e one two = absurd (differs (codes "check") (codes "plan") e (omega arith))
-one_behind rest (Check model) (Check other) e one two = ap Check (one_place rest model other one two)
-one_behind rest (Check model) (Gen n) e one two = absurd (differs (codes "check") (codes "gen") e (omega arith))
-one_behind rest (Check model) (Trial n) e one two = absurd (differs (codes "check") (codes "trial") e (omega arith))
-one_behind rest (Gen m) (Plan q) e one two = absurd (differs (codes "gen") (codes "plan") e (omega arith))
-one_behind rest (Gen m) (Check other) e one two = absurd (differs (codes "check") (codes "gen") (sym e) (omega arith))
-one_behind rest (Gen m) (Gen n) e one two = ap Gen (one_alone rest m n one two)
-one_behind rest (Gen m) (Trial n) e one two = absurd (differs (codes "gen") (codes "trial") e (omega arith))
-one_behind rest (Trial m) (Plan q) e one two = absurd (differs (codes "plan") (codes "trial") (sym e) (omega arith))
-one_behind rest (Trial m) (Check other) e one two = absurd (differs (codes "check") (codes "trial") (sym e) (omega arith))
-one_behind rest (Trial m) (Gen n) e one two = absurd (differs (codes "gen") (codes "trial") (sym e) (omega arith))
-one_behind rest (Trial m) (Trial n) e one two = ap Trial (one_alone rest m n one two)
+    one_plan one.items p q one.says says
 
--- the same words ask for the same job
-pub same_job : AskOnce
-same_job words job other one two =
+-- the same listed words ask for the same job
+same_listed : (words : List (List ℕ)) (job other : Job) → AsksByList words job → AsksByList words other → job ≡ other
+same_listed words job other one two =
     let command : command_of job ≡ command_of other = cc (one.command, two.command) in
     let rest : two.rest ≡ one.rest = cc (one.command, two.command) in
     let behind : AsksBehind one.rest other = rw rest at two.behind in
-    one_behind one.rest job other command one.behind behind
+    one_by (AsksBehind one.rest) (one_planned one.rest) (one_place one.rest) (one_alone one.rest) (one_alone one.rest) job other command one.behind behind
+
+-- ---- words that the parser takes
+same_text : (found : Option (List ℕ)) (x y : List ℕ) → found ≡ Some x → found ≡ Some y → x ≡ y
+same_text found x y one two = cc
+
+one_given : (rows : List Row) (id : List ℕ) (least greatest m n : ℕ) → GivesNumber rows id least greatest m → GivesNumber rows id least greatest n → m ≡ n
+one_given rows id least greatest m n one two =
+    let same = same_text (first_of id rows) one.0 two.0 one.1 two.1 in
+    sym one.2.value ∙ ap (digits_value 10) same ∙ two.2.value
+
+one_choice : (first second : List ℕ) → (first ≡ second → ⊥) → (found : Option (List ℕ)) (m n : Bool) → found ≡ Some (cond m second first) → found ≡ Some (cond n second first) → m ≡ n
+one_choice first second apart found true true one two = refl
+one_choice first second apart found true false one two = absurd (apart (same_text found first second two one))
+one_choice first second apart found false true one two = absurd (apart (same_text found first second one two))
+one_choice first second apart found false false one two = refl
+
+false_is_not_true : codes "false" ≡ codes "true" → ⊥
+false_is_not_true e = differs (codes "false") (codes "true") e (omega arith)
+
+uniform_is_not_sweep : codes "uniform" ≡ codes "sweep" → ⊥
+uniform_is_not_sweep e = differs (codes "sweep") (codes "uniform") (sym e) (omega arith)
+
+one_given_plan : (rows : List Row) (p q : PlanWords) → GivesPlan rows p → GivesPlan rows q → p ≡ q
+one_given_plan rows p q one two =
+    same_plan p q (same_text (first_of (codes "model") rows) p.model q.model one.model two.model)
+    (one_given rows (codes "beliefs") 1 4096 p.beliefs q.beliefs one.beliefs two.beliefs)
+    (one_given rows (codes "depth") 1 4096 p.depth q.depth one.depth two.depth)
+    (one_given rows (codes "stages") 1 1000 p.stages q.stages one.stages two.stages)
+    (one_given rows (codes "seed") 0 (2 ^ 64 - 1) p.seed q.seed one.seed two.seed)
+    (one_given rows (codes "workers") 0 0 p.workers q.workers one.workers two.workers)
+    (one_choice (codes "false") (codes "true") false_is_not_true (first_of (codes "prune") rows) p.prune q.prune one.prune two.prune)
+    (one_choice (codes "uniform") (codes "sweep") uniform_is_not_sweep (first_of (codes "explore") rows) p.sweep q.sweep one.explore two.explore)
+
+-- the same matches of one command give the same job
+one_gives : (rows : List Row) (job other : Job) → command_of job ≡ command_of other → Gives rows job → Gives rows other → job ≡ other
+one_gives rows = one_by (Gives rows) (one_given_plan rows) (same_text (first_of (codes "model") rows)) (one_given rows (codes "number") 0 16) (one_given rows (codes "number") 0 16)
+
+same_entry : (entry : Option (List ℕ × List Row)) (a b : List ℕ) (x y : List Row) → entry ≡ Some (a, x) → entry ≡ Some (b, y) → (a ≡ b) × (x ≡ y)
+same_entry entry a b x y one two = let both : ◌≡◌ {A = Option (List ℕ × List Row)} (Some (a, x)) (Some (b, y)) = sym one ∙ two in
+    let pairs : ◌≡◌ {A = List ℕ × List Row} (a, x) (b, y) = cc both in
+    (ap (λ (p : List ℕ × List Row). p.0) pairs, ap (λ (p : List ℕ × List Row). p.1) pairs)
+
+same_taken : (words : List (List ℕ)) (job other : Job) → AsksByParser words job → AsksByParser words other → job ≡ other
+same_taken words job other one two =
+    let same = same_entry (subcommand_of tool_app words) (command_of job) (command_of other) one.rows two.rows one.enters two.enters in
+    let gives : Gives one.rows other = rw (← same.1) at two.gives in
+    one_gives one.rows job other same.0 one.gives gives
+
+-- ---- both
+-- the same words ask for the same job
+pub same_job : AskOnce
+same_job words job other (inl one) (inl two) = same_listed words job other one two
+same_job words job other (inl one) (inr two) = absurd (two.0 job one)
+same_job words job other (inr one) (inl two) = absurd (one.0 other two)
+same_job words job other (inr one) (inr two) = same_taken words job other one.1 two.1

@@ -1,7 +1,9 @@
 -- What the words of a call ask for.
-use Rattle.std.specs.Prelude.{◌≡◌, ℕ, ◌-◌, ◌^◌, ◌<◌, ◌≤◌, List, [], ◌∷◌, length, codes, Bool, true, false, ◌⊎◌}
+use Rattle.std.specs.Prelude.{◌≡◌, ℕ, ◌-◌, ◌^◌, ◌<◌, ◌≤◌, List, [], ◌∷◌, length, codes, Bool, true, false, cond, ◌⊎◌, Some}
 use Rattle.std.specs.List.{AllByRecursion}
+use Rattle.clap.specs.Words.{Row, first_of, subcommand_of, takes, fault_of}
 use Rattle.sp_words.specs.Items.{Item, words_of, places, values, is_name, Names, IsItem, IsNumber, HasNumber, HasFlag}
+use Rattle.sp_words.specs.Apps.{tool_app}
 use Rattle.sp_words.specs.declared.job.PlanWords.{PlanWords}
 use Rattle.sp_words.specs.declared.job.Job.{Job}
 use Rattle.sp_words.specs.declared.job.Job.TheVariants.{Plan, Check, Gen, Trial}
@@ -60,11 +62,52 @@ AsksBehind rest (Check model) = IsPlacedAlone rest model
 AsksBehind rest (Gen number) = IsNumberAlone rest number
 AsksBehind rest (Trial number) = IsNumberAlone rest number
 
--- the words are those of a command, and ask for this
-pub record Asks (words : List (List ℕ)) (job : Job) : Type 0 where
+-- the words are those that are listed for a command, and ask for this
+pub record AsksByList (words : List (List ℕ)) (job : Job) : Type 0 where
   pub rest : List (List ℕ)
   pub command : words ≡ command_of job ∷ rest
   pub behind : AsksBehind rest job
+
+-- ---- words that the parser of command lines takes
+
+-- the id has a number between these
+abbrev pub GivesNumber : List Row → List ℕ → ℕ → ℕ → ℕ → Type 0
+GivesNumber rows id least greatest n = (text : List ℕ) × (first_of id rows ≡ Some text) × IsNumber least greatest text n
+
+-- the matches are those of a plan on no further threads
+pub record GivesPlan (rows : List Row) (plan : PlanWords) : Type 0 where
+  pub model : first_of (codes "model") rows ≡ Some plan.model
+  pub beliefs : GivesNumber rows (codes "beliefs") 1 4096 plan.beliefs
+  pub depth : GivesNumber rows (codes "depth") 1 4096 plan.depth
+  pub stages : GivesNumber rows (codes "stages") 1 1000 plan.stages
+  pub seed : GivesNumber rows (codes "seed") 0 (2 ^ 64 - 1) plan.seed
+  pub workers : GivesNumber rows (codes "workers") 0 0 plan.workers
+  pub prune : first_of (codes "prune") rows ≡ Some (cond plan.prune (codes "true") (codes "false"))
+  pub explore : first_of (codes "explore") rows ≡ Some (cond plan.sweep (codes "sweep") (codes "uniform"))
+
+-- the matches of a command give this job
+abbrev pub Gives : List Row → Job → Type 0
+Gives rows (Plan plan) = GivesPlan rows plan
+Gives rows (Check model) = first_of (codes "model") rows ≡ Some model
+Gives rows (Gen number) = GivesNumber rows (codes "number") 0 16 number
+Gives rows (Trial number) = GivesNumber rows (codes "number") 0 16 number
+
+-- the parser finds no fault in the words, or its definition says that it takes them
+abbrev pub IsTaken : List (List ℕ) → Type 0
+IsTaken words = (fault_of tool_app words ≡ []) ⊎ (takes tool_app words ≡ true)
+
+-- the parser takes the words, and its matches give this job
+pub record AsksByParser (words : List (List ℕ)) (job : Job) : Type 0 where
+  pub rows : List Row
+  pub taken : IsTaken words
+  pub enters : subcommand_of tool_app words ≡ Some (command_of job, rows)
+  pub gives : Gives rows job
+
+-- ---- both
+
+-- the words ask for this as they are listed, or are not of the list and ask for it by the parser
+abbrev pub Asks : List (List ℕ) → Job → Type 0
+Asks words job = AsksByList words job ⊎ (((other : Job) → ¬ (AsksByList words other)) × AsksByParser words job)
 
 -- the numbers of a plan are in their ranges
 pub record ArePlanNumbers (plan : PlanWords) : Type 0 where

@@ -1,10 +1,12 @@
 //! The words of the command line: which commands there are, and what they ask for.
 #![tactic(auto)]
 
+mod commands;
 mod job;
 mod laws;
 mod pieces;
 mod reading;
+mod taken;
 #[cfg(test)]
 mod tests;
 

@@ -2,7 +2,7 @@
 
 ghost use Rattle.std.specs.Prelude.{◌≡◌, ◌≢◌, ℕ, List, ◌∷◌, codes, map, cond, IfOk, MatchOption, string_bytes, Err, Bool};
 ghost use Rattle.sp_words.specs.Pieces.{item_of};
-ghost use Rattle.sp_words.specs.Jobs.{Asks, AsksBehind, IsPlan, HasExplore, IsPlacedAlone, IsNumberAlone, IsPossible, command_of};
+ghost use Rattle.sp_words.specs.Jobs.{Asks, AsksByList, AsksBehind, IsPlan, HasExplore, IsPlacedAlone, IsNumberAlone, IsPossible, command_of};
 ghost use Rattle.sp_words.specs.Items.{HasFlag};
 ghost use Rattle.sp_words.specs.declared.job.Job.{Job};
 ghost use Rattle.sp_words.specs.declared.job.PlanWords.{PlanWords};
@@ -11,14 +11,26 @@ use crate::job::{Job, Name, PlanWords, WordsError};
 use crate::pieces::{
     Piece, flag_count, is_name, lacks, number_in, number_of, only_place, only_value, pieces_of,
 };
+use crate::taken::read_taken;
 use std::alloc::Global;
 
-/// What the words of a call ask for.
-#[tactic(auto, using(crate::proofs::Possible::behind_possible))]
+/// What the words of a call ask for: what is listed, and where they aren't of the list what the parser of command lines makes of them.
 pub fn read_words(alloc: Global, words: &[String]) -> Result<Job, WordsError>
     ensures asks { IfOk result (λ job. Asks (map string_bytes words.now) job) }
     ensures possible { IfOk result IsPossible }
     ensures usage { result ≡ Err WordsError.Usage → (job : Job) → ¬ (Asks (map string_bytes words.now) job) }
+{
+    match read_listed(alloc, words) {
+        Ok(job) => Ok(job),
+        Err(WordsError::Usage) => read_taken(alloc, words),
+        Err(WordsError::NoMemory) => Err(WordsError::NoMemory),
+    }
+}
+
+/// What the words ask for as they are listed.
+fn read_listed(alloc: Global, words: &[String]) -> Result<Job, WordsError>
+    ensures asks { IfOk result (λ job. AsksByList (map string_bytes words.now) job) }
+    ensures usage { result ≡ Err WordsError.Usage → (job : Job) → ¬ (AsksByList (map string_bytes words.now) job) }
 {
     if let Some(rest) = words_behind(words, "plan") {
         return plan(alloc, rest);

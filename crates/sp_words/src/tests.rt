@@ -1,11 +1,14 @@
 //! The words of whole lines. The expected jobs are written out by hand.
 
+mod taken;
+
 use super::{Job, WordsError, read_words};
+use crate::taken::read_taken;
 use std::alloc::{AllocError, Global};
 use std::test::Fail;
 
 /// Lines, cut at each space, and what their words ask for.
-const LINES: [(&str, &str); 67] = [
+const LINES: [(&str, &str); 74] = [
     (
         "plan m.txt --beliefs 1 --depth 2 --stages 3 --seed 7 --workers 0",
         "plan m.txt beliefs 1 depth 2 stages 3 seed 7 workers 0 prune false sweep false",
@@ -25,6 +28,7 @@ const LINES: [(&str, &str); 67] = [
     ("check m.txt", "check m.txt"),
     ("check check", "check check"),
     ("gen 0", "gen 0"),
+    ("gen 9", "gen 9"),
     ("gen 16", "gen 16"),
     ("gen 00000000000000000016", "gen 16"),
     ("trial 0", "trial 0"),
@@ -42,12 +46,10 @@ const LINES: [(&str, &str); 67] = [
     ("plan", "usage"),
     ("plan m.txt", "usage"),
     ("check", "usage"),
-    ("check ", "usage"),
     ("check  m.txt", "usage"),
     ("check m.txt n.txt", "usage"),
     ("check m.txt --prune", "usage"),
     ("check -m.txt", "usage"),
-    ("check -", "usage"),
     ("gen", "usage"),
     ("gen ", "usage"),
     ("gen 17", "usage"),
@@ -129,6 +131,18 @@ const LINES: [(&str, &str); 67] = [
         "plan m.txt --beliefs 1 --depth 1 --stages 1 --seed 7 --workers 1",
         "usage",
     ),
+    (
+        "plan m.txt --beliefs 1 --depth 1 --stages 1 --seed 7 --workers 65",
+        "usage",
+    ),
+    (
+        "plan m.txt --beliefs 1 --depth 1 --stages 1 --seed -7 --workers 0",
+        "usage",
+    ),
+    (
+        "plan m.txt --beliefs one --depth 1 --stages 1 --seed 7 --workers 0",
+        "usage",
+    ),
     // Options that come twice, have no such value, or don't exist; names of files.
     (
         "plan m.txt --beliefs 1 --beliefs 1 --depth 1 --stages 1 --seed 7 --workers 0",
@@ -151,6 +165,34 @@ const LINES: [(&str, &str); 67] = [
         "usage",
     ),
     (
+        "plan m.txt --depth 1 --depth 2 --beliefs 1 --stages 1 --seed 7 --workers 0",
+        "usage",
+    ),
+    (
+        "plan m.txt --beliefs 1 --depth 1 --stages 1 --stages 1 --seed 7 --workers 0",
+        "usage",
+    ),
+    (
+        "plan m.txt --beliefs 1 --depth 1 --stages 1 --seed 7 --seed 7 --workers 0",
+        "usage",
+    ),
+    (
+        "plan m.txt --beliefs 1 --depth 1 --stages 1 --seed 7 --workers 0 --workers 0",
+        "usage",
+    ),
+    (
+        "plan m.txt --belief 1 --depth 1 --stages 1 --seed 7 --workers 0",
+        "usage",
+    ),
+    (
+        "plan m.txt --beliefs 1 --depth 1 --stages 1 --seed 7 --workers 0 --steps 1",
+        "usage",
+    ),
+    (
+        "plan m.txt --beliefs 1 --depth 1 --stages 1 --seed 7 --workers 0 --help",
+        "usage",
+    ),
+    (
         "plan m.txt --sessions s.txt --beliefs 1 --depth 1 --stages 1 --seed 7 --workers 0",
         "usage",
     ),
@@ -163,15 +205,7 @@ const LINES: [(&str, &str); 67] = [
         "usage",
     ),
     (
-        "plan  --beliefs 1 --depth 1 --stages 1 --seed 7 --workers 0",
-        "usage",
-    ),
-    (
         "plan m.txt yes --prune --beliefs 1 --depth 1 --stages 1 --seed 7 --workers 0",
-        "usage",
-    ),
-    (
-        "plan m.txt --beliefs=1 --depth 1 --stages 1 --seed 7 --workers 0",
         "usage",
     ),
 ];
@@ -207,18 +241,41 @@ fn text_of(alloc: Global, job: &Job) -> Result<String, AllocError> {
     }
 }
 
+/// The job, or why there is none, as text.
+fn answer(alloc: Global, job: Result<Job, WordsError>) -> Result<String, AllocError> {
+    match job {
+        Ok(job) => text_of(alloc, &job),
+        Err(WordsError::Usage) => "usage".to_string(alloc),
+        Err(WordsError::NoMemory) => "no memory".to_string(alloc),
+    }
+}
+
 #[test]
 fn lines_ask_as_stated(rt: HostRuntime) -> Result<(), Fail> {
     let alloc = rt.alloc();
     for (line, want) in &LINES {
         let words = words_of(alloc, line)?;
-        match read_words(alloc, words.as_slice()) {
-            Ok(job) => assert_eq!(rt; text_of(alloc, &job)?.as_str(), *want, "of {line:?}"),
-            Err(error) => {
-                assert_eq!(rt; error, WordsError::Usage, "of {line:?}");
-                assert_eq!(rt; "usage", *want, "of {line:?}");
-            }
-        }
+        let answer = answer(alloc, read_words(alloc, words.as_slice()))?;
+        assert_eq!(rt; answer.as_str(), *want, "of {line:?}");
     }
+    Ok(())
+}
+
+#[test]
+fn the_parser_takes_listed_lines_alike(rt: HostRuntime) -> Result<(), Fail> {
+    let alloc = rt.alloc();
+    for (line, want) in &LINES {
+        let words = words_of(alloc, line)?;
+        let answer = answer(alloc, read_taken(alloc, words.as_slice()))?;
+        assert_eq!(rt; answer.as_str(), *want, "of {line:?}");
+    }
+    Ok(())
+}
+
+#[test]
+fn no_words_ask_for_nothing(rt: HostRuntime) -> Result<(), Fail> {
+    let alloc = rt.alloc();
+    let words: Vec<String> = Vec::new(alloc);
+    assert!(rt; matches!(read_words(alloc, words.as_slice()), Err(WordsError::Usage)));
     Ok(())
 }

@@ -1,0 +1,96 @@
+//! The commands, as the parser of command lines reads them.
+
+ghost use Rattle.std.specs.Prelude.{◌≡◌, IfOk, IfErr, ◌⊎◌, map, string_bytes, false, []};
+ghost use Rattle.clap.specs.Words.{app_of, rule_of, fault_of, kind_of, subcommand_rows_of, subcommand_of};
+ghost use Rattle.clap.specs.declared.builder.Command.TheViews.{out-Command};
+ghost use Rattle.sp_words.specs.Apps.{place_rule, option_rule, place_app, numbers_app, plan_app, top_app, tool_app};
+ghost use Rattle.sp_words.specs.Jobs.{IsTaken};
+
+use clap::error::ErrorKind;
+use clap::{Arg, ArgAction, ArgMatches, Command, Error};
+use std::alloc::{AllocError, Global};
+
+/// A word by itself.
+fn place<'a>(alloc: Global, id: &'a str) -> Arg<'a>
+    ensures rule { rule_of result ≡ place_rule id.entry.now }
+    ensures local { result.global ≡ false }
+{
+    Arg::new(alloc, id).required(true)
+}
+
+/// An option that has to be there, with its value.
+fn option<'a>(alloc: Global, id: &'a str) -> Arg<'a>
+    ensures rule { rule_of result ≡ option_rule id.entry.now }
+    ensures local { result.global ≡ false }
+{
+    Arg::new(alloc, id).long(id).required(true)
+}
+
+/// A command with one word by itself.
+fn place_command<'a>(alloc: Global, name: &'a str, id: &'a str) -> Result<Command<'a>, AllocError>
+    ensures app { IfOk result (λ c. app_of c ≡ place_app name.entry.now id.entry.now) }
+    ensures local { IfOk result (λ c. (out-Command c).has_globals ≡ false) }
+{
+    Command::new(alloc, name).arg(place(alloc, id))
+}
+
+/// The command `plan`, with what has to be there.
+fn numbers_command<'a>(alloc: Global) -> Result<Command<'a>, AllocError>
+    ensures app { IfOk result (λ c. app_of c ≡ numbers_app) }
+    ensures local { IfOk result (λ c. (out-Command c).has_globals ≡ false) }
+{
+    place_command(alloc, "plan", "model")?
+        .arg(option(alloc, "beliefs"))?
+        .arg(option(alloc, "depth"))?
+        .arg(option(alloc, "stages"))?
+        .arg(option(alloc, "seed"))?
+        .arg(option(alloc, "workers"))
+}
+
+/// The command `plan`.
+fn plan_command<'a>(alloc: Global) -> Result<Command<'a>, AllocError>
+    ensures app { IfOk result (λ c. app_of c ≡ plan_app) }
+    ensures local { IfOk result (λ c. (out-Command c).has_globals ≡ false) }
+{
+    let prune = Arg::new(alloc, "prune")
+        .long("prune")
+        .action(ArgAction::SetTrue);
+    let explore = Arg::new(alloc, "explore")
+        .long("explore")
+        .default_value("uniform");
+    numbers_command(alloc)?.arg(prune)?.arg(explore)
+}
+
+/// The words begin with the command, which has to be there.
+fn top_command<'a>(alloc: Global) -> Command<'a>
+    ensures app { app_of result ≡ top_app }
+{
+    Command::new(alloc, "perseus")
+        .no_binary_name(true)
+        .subcommand_required(true)
+}
+
+/// The whole program.
+fn tool_command<'a>(alloc: Global) -> Result<Command<'a>, AllocError>
+    ensures { IfOk result (λ c. app_of c ≡ tool_app) }
+{
+    let plan = plan_command(alloc)?;
+    let check = place_command(alloc, "check", "model")?;
+    let generate = place_command(alloc, "gen", "number")?;
+    let trial = place_command(alloc, "trial", "number")?;
+    top_command(alloc)
+        .subcommand(plan)?
+        .subcommand(check)?
+        .subcommand(generate)?
+        .subcommand(trial)
+}
+
+/// What the parser makes of the words.
+pub fn matches_of<'a>(alloc: Global, words: &'a [String]) -> Result<ArgMatches<'a>, Error>
+    ensures matches { IfOk result (λ m. subcommand_rows_of m ≡ subcommand_of tool_app (map string_bytes words.entry.now)) }
+    ensures passes { IfOk result (λ m. fault_of tool_app (map string_bytes words.entry.now) ≡ []) }
+    ensures refuses { IfErr result (λ e. (kind_of e ≡ ErrorKind.OutOfMemory) ⊎ ¬ (IsTaken (map string_bytes words.entry.now))) }
+{
+    let command = tool_command(alloc)?;
+    command.try_get_matches_from(words)
+}

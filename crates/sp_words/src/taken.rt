@@ -1,0 +1,151 @@
+//! Reads words that aren't those of the list, as the parser of command lines takes them.
+
+ghost use Rattle.std.specs.Prelude.{◌≡◌, ◌≢◌, ℕ, List, Bool, None, Some, codes, cond, map, IfOk, MatchOption, string_bytes, Err};
+ghost use Rattle.clap.specs.Words.{found_of, rows_of, first_of};
+ghost use Rattle.sp_words.specs.Jobs.{AsksByParser, GivesNumber, GivesPlan, Gives, command_of};
+ghost use Rattle.sp_words.specs.declared.job.Job.{Job};
+ghost use Rattle.sp_words.specs.declared.job.PlanWords.{PlanWords};
+
+use crate::commands::matches_of;
+use crate::job::{Job, Name, PlanWords, WordsError};
+use crate::pieces::number_in;
+use clap::ArgMatches;
+use clap::error::ErrorKind;
+use std::alloc::Global;
+
+/// What the parser of command lines makes of the words.
+pub fn read_taken(alloc: Global, words: &[String]) -> Result<Job, WordsError>
+    ensures asks { IfOk result (AsksByParser (map string_bytes words.now)) }
+    ensures usage { result ≡ Err WordsError.Usage → (job : Job) → ¬ (AsksByParser (map string_bytes words.now) job) }
+{
+    let matches = match matches_of(alloc, words) {
+        Ok(matches) => matches,
+        Err(error) => {
+            if error.kind() == ErrorKind::OutOfMemory {
+                return Err(WordsError::NoMemory);
+            }
+            return Err(WordsError::Usage);
+        }
+    };
+    match matches.subcommand() {
+        Some((name, inner)) => job_of(alloc, name, inner),
+        None => Err(WordsError::Usage),
+    }
+}
+
+/// The job that the matches of a command give.
+fn job_of(alloc: Global, command: &str, matches: &ArgMatches<'_>) -> Result<Job, WordsError>
+    ensures asks { IfOk result (λ job. (command_of job ≡ command.now) × Gives (rows_of (found_of matches.now)) job) }
+    ensures usage { result ≡ Err WordsError.Usage → (job : Job) → command_of job ≡ command.now → ¬ (Gives (rows_of (found_of matches.now)) job) }
+{
+    if command == "plan" {
+        return match plan_of(alloc, matches) {
+            Ok(plan) => Ok(Job::Plan(plan)),
+            Err(error) => Err(error),
+        };
+    }
+    if command == "check" {
+        return check_of(alloc, matches);
+    }
+    if command == "gen" {
+        return match number_at(matches, "number", 0, 16) {
+            Some(number) => Ok(Job::Gen { number }),
+            None => Err(WordsError::Usage),
+        };
+    }
+    if command == "trial" {
+        return match number_at(matches, "number", 0, 16) {
+            Some(number) => Ok(Job::Trial { number }),
+            None => Err(WordsError::Usage),
+        };
+    }
+    Err(WordsError::Usage)
+}
+
+/// The check that matches give.
+fn check_of(alloc: Global, matches: &ArgMatches<'_>) -> Result<Job, WordsError>
+    ensures asks { IfOk result (λ job. (command_of job ≡ codes "check") × Gives (rows_of (found_of matches.now)) job) }
+    ensures usage { result ≡ Err WordsError.Usage → (job : Job) → command_of job ≡ codes "check" → ¬ (Gives (rows_of (found_of matches.now)) job) }
+{
+    match text_at(matches, "model") {
+        Some(model) => {
+            let model = Name::new(alloc, model)?;
+            Ok(Job::Check { model })
+        }
+        None => Err(WordsError::Usage),
+    }
+}
+
+/// The plan that matches give.
+fn plan_of(alloc: Global, matches: &ArgMatches<'_>) -> Result<PlanWords, WordsError>
+    ensures plan { IfOk result (λ p. GivesPlan (rows_of (found_of matches.now)) p) }
+    ensures usage { result ≡ Err WordsError.Usage → (p : PlanWords) → ¬ (GivesPlan (rows_of (found_of matches.now)) p) }
+{
+    let Some(model) = text_at(matches, "model") else {
+        return Err(WordsError::Usage);
+    };
+    let Some(beliefs) = number_at(matches, "beliefs", 1, 4096) else {
+        return Err(WordsError::Usage);
+    };
+    let Some(depth) = number_at(matches, "depth", 1, 4096) else {
+        return Err(WordsError::Usage);
+    };
+    let Some(stages) = number_at(matches, "stages", 1, 1000) else {
+        return Err(WordsError::Usage);
+    };
+    let Some(seed) = number_at(matches, "seed", 0, u64::MAX) else {
+        return Err(WordsError::Usage);
+    };
+    let Some(workers) = number_at(matches, "workers", 0, 0) else {
+        return Err(WordsError::Usage);
+    };
+    let Some(prune) = choice_at(matches, "prune", "false", "true") else {
+        return Err(WordsError::Usage);
+    };
+    let Some(sweep) = choice_at(matches, "explore", "uniform", "sweep") else {
+        return Err(WordsError::Usage);
+    };
+    let model = Name::new(alloc, model)?;
+    Ok(PlanWords {
+        model,
+        beliefs,
+        depth,
+        stages,
+        seed,
+        workers,
+        prune,
+        sweep,
+    })
+}
+
+/// The text of an id.
+fn text_at<'a>(matches: &ArgMatches<'a>, id: &str) -> Option<&'a str>
+    ensures { MatchOption result (first_of id.now (rows_of (found_of matches.now)) ≡ None) (λ s. first_of id.now (rows_of (found_of matches.now)) ≡ Some s.now) }
+{
+    matches.get_str(id)
+}
+
+/// The number of an id, if it is one between these two.
+fn number_at(matches: &ArgMatches<'_>, id: &str, low: u64, high: u64) -> Option<u64>
+    ensures { MatchOption result ((n : ℕ) → ¬ (GivesNumber (rows_of (found_of matches.now)) id.now low high n)) (λ n. GivesNumber (rows_of (found_of matches.now)) id.now low high n) }
+{
+    match text_at(matches, id) {
+        Some(text) => number_in(text, low, high),
+        None => None,
+    }
+}
+
+/// Which of two texts an id has, if it has one of them.
+fn choice_at(matches: &ArgMatches<'_>, id: &str, first: &str, second: &str) -> Option<bool>
+    ensures { MatchOption result ((is : Bool) → ¬ (first_of id.now (rows_of (found_of matches.now)) ≡ Some (cond is second.now first.now))) (λ is. first_of id.now (rows_of (found_of matches.now)) ≡ Some (cond is second.now first.now)) }
+{
+    match text_at(matches, id) {
+        Some(text) => {
+            if text == first {
+                return Some(false);
+            }
+            if text == second { Some(true) } else { None }
+        }
+        None => None,
+    }
+}
