@@ -1,7 +1,8 @@
 //! Planning on one thread.
 
-use crate::tests::runs::{SMALL, are_options, chooser, lines, model_of, planned};
+use crate::tests::runs::{SMALL, are_options, lines, model_of, planned};
 use crate::tests::texts_books::{path, place, robot, tiger};
+use sp_choose::{Chooser, Uniform};
 use sp_planner::{Summary, summarize};
 use sp_value::Options;
 use std::alloc::Global;
@@ -13,7 +14,7 @@ fn summed(alloc: Global, text: &str, options: Options) -> Result<Summary, Fail> 
         return Err(Fail::new("options out of range"));
     }
     let model = model_of(alloc, text)?;
-    let chooser = chooser(alloc)?;
+    let chooser: Box<dyn Chooser + Send> = Box::new(alloc, Uniform)?;
     let summary = summarize(alloc, model, options, chooser)?;
     Ok(summary)
 }

@@ -44,19 +44,13 @@ pub(crate) fn are_options(options: &Options) -> bool
         && options.stages <= 1000
 }
 
-/// The chooser of the examples.
-pub(crate) fn chooser(alloc: Global) -> Result<Box<dyn Chooser + Send>, Fail> {
-    let chooser: Box<dyn Chooser + Send> = Box::new(alloc, Uniform)?;
-    Ok(chooser)
-}
-
 /// The run of one thread.
 pub(crate) fn planned(alloc: Global, text: &str, options: Options) -> Result<Run, Fail> {
     if !are_options(&options) {
         return Err(Fail::new("options out of range"));
     }
     let model = model_of(alloc, text)?;
-    let chooser = chooser(alloc)?;
+    let chooser: Box<dyn Chooser + Send> = Box::new(alloc, Uniform)?;
     let run = plan(alloc, model, options, chooser)?;
     Ok(run)
 }
