@@ -69,3 +69,23 @@ fn is_first(pairs: &Pairs, id: u64) -> bool
     }
     false
 }
+
+#[cfg(test)]
+mod tests {
+    use super::apply;
+    use std::test::Fail;
+
+    /// Of two members under one another the pair that comes first applies.
+    #[test]
+    fn one_of_twins_stays(rt: HostRuntime) -> Result<(), Fail> {
+        let alloc = rt.alloc();
+        for (pairs, stays) in [([(4, 3), (3, 4)], 3), ([(3, 4), (4, 3)], 4)] {
+            let mut ids = vec![in alloc; 3u64; 1]?;
+            ids.push(4)?;
+            let applied = pairs.map(|(first, other)| apply(&mut ids, first, other));
+            assert_eq!(rt; applied, [true, false]);
+            assert_eq!(rt; ids.as_slice(), [stays].as_slice());
+        }
+        Ok(())
+    }
+}
