@@ -1,8 +1,8 @@
 //! From the parsed text of a model file to its model, or to the refusal that comes first.
 //!
-//! `specs/Meaning.antt` says what a text means. Declarations are judged, then the sections in turn, then what is missing at
-//! the end; the first of these parts that breaks a rule decides, by its refusal of the least place, and there by the rule that
-//! stands first in `sp_trees`'s list of kinds. Sections stand in the order of their places, so no place before it is at fault.
+//! `specs/Meaning.antt` says what a text means. Declarations are judged in turn, then the sections, each item by item, then what
+//! is missing at the end; the first of these that is refused decides. Inside one tree the refusal of the least place does, and
+//! there the kind that stands first in `sp_trees`'s list. Items stand in the order of their places, which no law says.
 #![tactic(auto)]
 
 mod accepted;

@@ -1,6 +1,6 @@
 //! The declarations of a model text: its variables and observation variables with their values, within the limits.
 //!
-//! What refuses a text is answered in the order of its places: `specs/Steps.antt` says how parts follow one another.
+//! Parts are judged in turn, and the first that is refused decides: `specs/Steps.antt` says how they follow one another.
 #![tactic(auto)]
 
 mod declarations;

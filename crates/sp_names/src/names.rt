@@ -8,7 +8,8 @@ use sp_dd::NoMemory;
 use std::alloc::Global;
 use std::marker::Model;
 
-/// Names, no two of which are equal. Contracts see them as the list of their bytes.
+/// Names in the order in which they were declared; one that is there already isn't taken again. Contracts see them as the list of
+/// their bytes.
 #[derive(Drop)]
 pub struct Names<'a> {
     index: IndexSet<&'a [u8]>,

@@ -2,7 +2,7 @@
 
 ghost use Rattle.sp_planfile.specs.RunText.{TextTellsEvents};
 
-/// Different events have different texts.
+/// Different events have different texts, where their numbers and their count are below 2^64.
 pub fn text_tells_events()
     ensures { TextTellsEvents }
 {}
