@@ -1,4 +1,4 @@
-use Rattle.std.proofs.Common.{rules, ◌≡◌}
+use Rattle.std.proofs.Common.{rules}
 use denote.Param.Object.{read_made}
 use mathlib.Core.Path.{refl, ap, ◌∙◌}
 use mathlib.Core.Logic.{inl, inr}
