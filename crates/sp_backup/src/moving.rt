@@ -31,7 +31,8 @@ pub(crate) fn weigh_next(
     Ok(out)
 }
 
-/// `f` with one variable's next value weighed out.
+/// `f` with one variable's next value weighed out. Where `f` doesn't depend on it that is `f`, and where the variable keeps its
+/// value, the diagonal: `weigh_out` sees both.
 fn weigh_variable(
     alloc: Global,
     model: &Model,

@@ -1,4 +1,6 @@
 pub mod CofactorLemmas
+pub mod DiagonalLemmas
+pub mod KeptLemmas
 pub mod PairLemmas
 pub mod FixedLemmas
 pub mod FixedPairLemmas

@@ -8,6 +8,7 @@ ghost use Rattle.sp_dd.specs.Floors.{ticks};
 ghost use Rattle.sp_ddops.specs.Fixed.{fixed_part, IsFixedPart, product_along};
 
 use crate::cofactor::cofactor;
+use crate::diagonals::{diagonal, is_kept};
 use crate::fixed_pairs::combined_at;
 use crate::pairs::{Op, combined};
 use sp_dd::{Choice, Diagram, NoMemory, Nodes, Part, Scope, Source, State, Step};
@@ -103,7 +104,7 @@ pub fn sum_out(alloc: Global, f: &Diagram, slot: u64) -> Result<Diagram, NoMemor
 }
 
 /// The floor of the mean over a slot's values, by the weights of `p` in ticks. Where `f` doesn't depend on the slot, that is
-/// `f` itself.
+/// `f` itself, and where `p` leads from each value of a state variable to the same value, it is `f` on the diagonal.
 pub fn weigh_out(alloc: Global, f: &Diagram, slot: u64, p: &Diagram) -> Result<Diagram, NoMemory>
     requires scopes { f.now.shape ≡ p.now.shape }
     requires slot { slot < length f.now.shape.sizes }
@@ -115,6 +116,10 @@ pub fn weigh_out(alloc: Global, f: &Diagram, slot: u64, p: &Diagram) -> Result<D
     if !f.depends(slot) {
         let same = f.copied(alloc)?;
         return Ok(same);
+    }
+    if is_kept(p, slot) {
+        let kept = diagonal(alloc, f, slot)?;
+        return Ok(kept);
     }
     let last = scope.size(slot) - 1;
     let mut total = product_at(alloc, f, slot, p, 0)?;

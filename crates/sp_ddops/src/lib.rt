@@ -5,6 +5,7 @@
 
 mod bounds;
 mod cofactor;
+mod diagonals;
 mod fixed;
 mod fixed_pairs;
 mod pairs;
@@ -15,10 +16,11 @@ mod select;
 mod state_sums;
 
 pub use bounds::{greatest, least};
+pub use diagonals::diagonal;
 pub use fixed::{restrict, sum_out, weigh_out};
 pub use pairs::{add, max_with, mul_floor, mul_whole, times};
 pub use renamed::{prime, unprime};
 pub use rows::{constant, leaf_by};
 pub use search::{below, first_apart};
-pub use select::{branch, diagonal};
+pub use select::branch;
 pub use state_sums::dot;

@@ -13,10 +13,10 @@ use Rattle.sp_model.specs.declared.parts.Parts.{Parts}
 use Rattle.sp_model.specs.declared.beliefs.Sample.{Sample}
 use Rattle.sp_model.specs.Problem.{shape_of, problem}
 use Rattle.sp_model.specs.Kept.{IsModel}
-use Rattle.sp_model.specs.Links.{weights_of}
+use Rattle.sp_model.specs.Links.{weights_of, sample_of}
 use Rattle.sp_belief.specs.Updates.{AreInitial}
 use Rattle.sp_choose.specs.Machines.{Machine}
-use Rattle.sp_sampler.specs.Sampled.{AreSampled, IsDrawn, sample_of, parent_number}
+use Rattle.sp_sampler.specs.Sampled.{AreSampled, IsDrawn, parent_number}
 use Rattle.sp_sampler.proofs.Continued.{AreSoFar, first_so_far, one_more}
 
 pub parent_below : (depth k n : ℕ) → n ≡ suc k → parent_number depth k < n

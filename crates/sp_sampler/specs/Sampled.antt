@@ -10,14 +10,10 @@ use Rattle.sp_theory.specs.Samples as theory
 use Rattle.sp_model.specs.declared.parts.Parts.{Parts}
 use Rattle.sp_model.specs.declared.beliefs.Sample.{Sample}
 use Rattle.sp_model.specs.Problem.{shape_of, sizes_of, problem}
-use Rattle.sp_model.specs.Links.{weights_of}
+use Rattle.sp_model.specs.Links.{weights_of, sample_of}
 use Rattle.sp_belief.specs.Updates.{AreNext}
 use Rattle.sp_choose.specs.Machines.{Machine}
 use Rattle.sp_sampler.specs.Words.{left_after, first_words}
-
--- a sampled belief, as the theory has it
-abbrev pub sample_of : Parts → Sample → theory.Sample
-sample_of p x = record { action = x.action; observation = x.observation; weights = weights_of p x.weights }
 
 -- the same action and the same joint observation, and weights that agree
 pub record SamplesAgree (m : problems.Model) (x y : theory.Sample) : Type 0 where

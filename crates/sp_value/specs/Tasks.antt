@@ -9,7 +9,7 @@ use Rattle.sp_model.specs.declared.beliefs.Sample.{Sample}
 use Rattle.sp_model.specs.declared.beliefs.Samples.{Samples}
 use Rattle.sp_model.specs.Problem.{shape_of, no_func, problem}
 use Rattle.sp_model.specs.Kept.{IsModel}
-use Rattle.sp_model.specs.Links.{weights_of}
+use Rattle.sp_model.specs.Links.{weights_of, sample_of}
 use Rattle.sp_value.specs.declared.tasks.Options.{Options}
 
 -- what contracts see of a task
@@ -29,10 +29,6 @@ sampled_func t k = (slice_index_or t.samples.list k no_sample).weights
 -- the weights of a sampled belief
 abbrev pub weights_at : TaskParts → ℕ → Weights
 weights_at t k = weights_of t.model (sampled_func t k)
-
--- a sampled belief, as the theory has it
-abbrev pub sample_of : Parts → Sample → theory.Sample
-sample_of p s = record { action = s.action; observation = s.observation; weights = weights_of p s.weights }
 
 -- the task, as the theory has it
 abbrev pub task_of : TaskParts → Task

@@ -2,6 +2,5 @@ pub mod WordLemmas
 pub mod ItemLemmas
 pub mod JobLemmas
 pub mod OneJob
-pub mod Possible
 pub mod ParserLemmas
 pub mod CommandLemmas

@@ -28,10 +28,11 @@ enum Call {
     Prime,
     Unprime,
     Diagonal,
+    WeighKept,
 }
 
 /// All calls that answer a function.
-fn calls() -> [(Call, &'static str); 14] {
+fn calls() -> [(Call, &'static str); 15] {
     [
         (Call::Constant, "constant"),
         (Call::LeafBy, "leaf_by"),
@@ -47,6 +48,10 @@ fn calls() -> [(Call, &'static str); 14] {
         (Call::Prime, "prime"),
         (Call::Unprime, "unprime"),
         (Call::Diagonal, "diagonal"),
+        (
+            Call::WeighKept,
+            "weigh_out of a variable that keeps its value",
+        ),
     ]
 }
 
@@ -55,7 +60,7 @@ fn given(call: Call, case: Case) -> Rule {
     match call {
         Call::Prime => case.of_states(case.seed, 0),
         Call::Unprime => case.of_states(case.seed, 1),
-        Call::Diagonal => Rule {
+        Call::Diagonal | Call::WeighKept => Rule {
             seed: case.seed,
             left: case.slot,
             right: 1,
@@ -85,7 +90,7 @@ fn wanted(call: Call, case: Case, point: &Point) -> i128 {
         Call::MaxWith => x.max(FLOOR),
         Call::Restrict => f.value(&with(point, case.slot, case.size().saturating_sub(1))),
         Call::Prime | Call::Unprime => f.value(&exchanged(point, case.space.variables)),
-        Call::Diagonal => f.value(&with(point, 1, at(point, 0))),
+        Call::Diagonal | Call::WeighKept => f.value(&with(point, 1, at(point, 0))),
     }
 }
 
@@ -108,6 +113,7 @@ fn answer<F: Function>(alloc: Global, scope: &Scope, call: Call, case: Case) -> 
         Call::Prime => F::prime(alloc, &f),
         Call::Unprime => F::unprime(alloc, &f),
         Call::Diagonal => F::diagonal(alloc, &f, 1),
+        Call::WeighKept => F::weigh_out(alloc, &f, 1, &identity(alloc, scope)?),
     }
 }
 
@@ -147,6 +153,21 @@ fn weighed<F: Function>(alloc: Global, scope: &Scope, f: &F, case: Case) -> Resu
     }
     let p = F::branch(alloc, scope, case.after(1), parts.as_slice())?;
     F::weigh_out(alloc, f, case.slot, &p)
+}
+
+/// The table of a state variable that keeps its value: slot 1 has that of slot 0.
+fn identity<F: Function>(alloc: Global, scope: &Scope) -> Result<F, Fail> {
+    let size = size_at(scope, 0)?;
+    let mut parts = Vec::new(alloc);
+    for kept in 0..size {
+        let mut leaves = Vec::new(alloc);
+        for value in 0..size {
+            leaves.push(if value == kept { 1_000_000_000 } else { 0 })?;
+        }
+        let part = F::leaf_by(alloc, scope, 1, leaves.as_slice())?;
+        parts.push(part)?;
+    }
+    F::branch(alloc, scope, 0, parts.as_slice())
 }
 
 /// The weights of one row.

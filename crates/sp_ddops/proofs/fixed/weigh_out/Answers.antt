@@ -6,7 +6,8 @@ use Rattle.sp_dd.proofs.ScopeLemmas.{AllSizes-get_or}
 use Rattle.sp_ddops.specs.Fixed.{product_along}
 use Rattle.sp_ddops.proofs.SumLemmas.{products, front_first, sum_step_fits, sum_step, products_small, size_some, floored, floored_last}
 use Rattle.sp_ddops.proofs.RowLemmas.{row_within, weighed_out_free}
-use Rattle.sp_ddops.proofs.ZeroLemmas.{false_of}
+use Rattle.sp_ddops.proofs.KeptLemmas.{weighed_out_kept}
+use Rattle.sp_ddops.proofs.ZeroLemmas.{true_of, false_of}
 use Rattle.sp_ddops.proofs.fixed.weigh_out.Goals as goal
 
 weights : (f p : Func) (slot : ℕ) → f.shape ≡ p.shape → slot < length f.shape.sizes → IsRow p slot → Everywhere p (λ v. unsigned_abs v ≤ ticks)
@@ -36,6 +37,10 @@ product_at-requires-in-loop-value-clause-weights c = weights c.args.f.now c.args
 pub returns-then-not-depends : goal.returns-then-not-depends
 returns-then-not-depends c =
     weighed_out_free _ _ _ c.args.p.now c.scope.ensures.known c.scope.ensures.determined c.requires.scopes c.requires.row (false_of _ _ c.if-not-depends.true c.depends.ensures.no) c.in_ok-same.ensures
+
+pub returns-then-is_kept : goal.returns-then-is_kept
+returns-then-is_kept c =
+    weighed_out_kept _ _ _ _ c.scope.ensures.known c.requires.scopes c.requires.row (true_of _ _ c.if-is_kept.true c.is_kept.ensures.yes) c.in_ok-kept.ensures
 
 pub product_at-requires-2-clause-weights : goal.product_at-requires-2-clause-weights
 product_at-requires-2-clause-weights c = weights c.args.f.now c.args.p.now c.args.slot c.requires.scopes c.requires.slot c.requires.row
