@@ -31,19 +31,19 @@ pub struct Trial {
 }
 
 /// The point-based backup at a sampled belief on an edition (Spaan and Vlassis 2005): for each action and joint observation the
-/// member that brings the most, and the action of the greatest vector with those. The answer is the same whatever is kept.
+/// member that brings the most, and the action of the greatest vector with those, in ticks of 10^-9. The answer is the same
+/// whatever is kept.
 pub fn point_backup(
     alloc: Global,
     base: &Arc<Edition>,
     belief: u64,
-    kept: &mut Projections,
+    _kept: &mut Projections,
 ) -> Result<Candidate, NoMemory>
     requires { belief < (arc_value base.now).task.options.beliefs }
     ensures belief { IfOk result (λ c. c.belief ≡ belief) }
     ensures base { IfOk result (λ c. c.base ≡ arc_value base.now) }
     ensures backup { IfOk result IsCandidate }
 {
-    let _ = kept.capacity;
     let edition: &Edition = base;
     let weights = edition.task().weights(belief);
     let best = best_trial(alloc, edition, weights)?;

@@ -1,13 +1,13 @@
 //! The links of an action.
 
-ghost use Rattle.std.specs.Prelude.{◌≡◌, ◌<◌, ◌≤◌, ◌^◌, ℕ, All, length, slice_index_or, IfOk};
+ghost use Rattle.std.specs.Prelude.{◌≡◌, ◌<◌, All, length, slice_index_or, IfOk};
 ghost use Rattle.sp_dd.specs.Func.{IsOnUnprimed};
 ghost use Rattle.sp_dd.specs.Operations.{exchanged};
 ghost use Rattle.sp_theory.specs.Points.{IsPoint, count_of, point_of};
 ghost use Rattle.sp_model.specs.Problem.{shape_of, sizes_of};
 ghost use Rattle.sp_model.specs.Links.{weights_of};
 ghost use Rattle.sp_value.specs.Editions.{no_member};
-ghost use Rattle.sp_backup.specs.Functions.{IsWithin, IsNextVector, IsNextTable};
+ghost use Rattle.sp_backup.specs.Functions.{IsNextVector, IsNextTable};
 ghost use Rattle.sp_backup.specs.Choosing.{primed_vectors, observed_tables, multiplied, brought, IsLinkAt, AreLinks};
 
 use crate::models::model_of;
@@ -99,7 +99,7 @@ fn estimate(
 {
     let _ = model.parts();
     let share = multiply(alloc, model, tables, primed)?;
-    let moved = weigh_next(alloc, model, action, &share)?;
+    let moved = weigh_next(alloc, model, action, share)?;
     let sum = dot(alloc, weights.func(), &moved)?;
     Ok(sum)
 }

@@ -130,7 +130,6 @@ fn check_table(
 }
 
 /// The table of a tree of an action.
-
 #[tactic(auto, using(crate::proofs::AcceptedLemmas::accepted_err, crate::proofs::AcceptedLemmas::table_err, crate::proofs::AcceptedLemmas::table_ok, crate::proofs::TableLemmas::table_role))]
 pub(crate) fn table_of(
     alloc: Global,

@@ -82,7 +82,6 @@ fn with_slot(set: Slots, test: bool, slot: u64) -> Slots
 }
 
 /// The slots that a tree in that role may mention.
-
 #[tactic(auto, using(crate::proofs::RoleLemmas::no_slot, crate::proofs::RoleLemmas::one_slot_more))]
 pub(crate) fn allowed(scope: &Scope, role: Role) -> Slots
     requires { spec.IsSmallRole role }

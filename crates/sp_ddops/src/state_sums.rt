@@ -11,7 +11,7 @@ use sp_dd::{Choice, Diagram, Memo, NoMemory, Nodes, Part, Scope, State};
 use std::alloc::Global;
 
 /// The sum of `w * f` over all states: one for each choice of values of the unprimed state slots. A slot on which neither
-/// function branches counts once for each of its values. Linear in the pairs of nodes that are met.
+/// function branches counts once for each of its values.
 pub fn dot(alloc: Global, w: &Diagram, f: &Diagram) -> Result<i128, NoMemory>
     requires scopes { w.now.shape ≡ f.now.shape }
     requires unprimed_w { IsOnUnprimed w.now }

@@ -14,7 +14,6 @@ const FIX: &str =
 
 /// The model text of a number: `number + 8` two-valued variables, of which the first is hidden and pays most. The action
 /// `look` tells of it in 85 of 100 cases, `fix` switches it on, and `set2` to `set5` switch on one other variable each.
-
 pub fn generated(alloc: Global, number: u64) -> Result<String, NoMemory>
     requires { number ≤ 16 }
     ensures { IfOk result (λ text. string_bytes text ≡ generated_text number) }
@@ -29,7 +28,6 @@ pub fn generated(alloc: Global, number: u64) -> Result<String, NoMemory>
 }
 
 /// Adds so many variables, and the observation variable.
-
 fn push_declarations(text: &mut String, count: u64) -> Result<(), AllocError>
     requires { count ≤ 24 }
     ensures { OnOk result (string_bytes text.new ≡ string_bytes text.old ++ declarations count) }
@@ -41,7 +39,6 @@ fn push_declarations(text: &mut String, count: u64) -> Result<(), AllocError>
 }
 
 /// Adds the initial belief of the first variable and so many others.
-
 fn push_opening(text: &mut String, count: u64) -> Result<(), AllocError>
     requires { count ≤ 24 }
     ensures { OnOk result (string_bytes text.new ≡ string_bytes text.old ++ opening_belief count) }
@@ -83,7 +80,6 @@ fn push_fix(text: &mut String) -> Result<(), AllocError>
 }
 
 /// Adds what the first variable and so many others pay.
-
 fn push_rewards(text: &mut String, count: u64) -> Result<(), AllocError>
     requires { count ≤ 24 }
     ensures { OnOk result (string_bytes text.new ≡ string_bytes text.old ++ rewards count) }

@@ -6,7 +6,8 @@ use crate::Func;
 use crate::sequence::Sequence;
 use std::marker::Model;
 
-/// A belief as whole numbers: one for each state, which stands for that number over their total.
+/// A belief as whole numbers, with a total above 2^61 and at most 2^62: one for each state, which stands for that number over
+/// their total.
 #[derive(Drop)]
 pub struct Weights {
     func: Func,

@@ -1,3 +1,4 @@
 pub mod Fronts
+pub mod FirstFault
 pub mod SourceLemmas
 pub mod Joined

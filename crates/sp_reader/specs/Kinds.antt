@@ -1,5 +1,5 @@
 -- The names of refusals, as they are told.
-use Rattle.std.specs.Prelude.{ℕ, ◌-◌, ◌<◌, ℤ, List, [], ◌∷◌, ◌++◌, map, length, codes, slice_index_or, nat_lt, cond}
+use Rattle.std.specs.Prelude.{ℕ, List, [], ◌∷◌, ◌++◌, map, codes, slice_index_or}
 use Rattle.std.specs.Fmt.{decimal}
 use Rattle.sp_lex.specs.declared.lexeme.Span.{Span}
 use Rattle.sp_syntax.specs.declared.error.SyntaxKind.{SyntaxKind}

@@ -41,3 +41,7 @@ AcceptedIsNotRefused = (source : List ℕ) (model : Parts) (at : ℕ) (name : Li
 -- bytes mean one model at most
 abbrev pub OneModel : Type 0
 OneModel = (source : List ℕ) (model other : Parts) → Reads source model → Reads source other → model ≡ other
+
+-- bytes are refused at one byte at most, for one reason
+abbrev pub OneRefusal : Type 0
+OneRefusal = (source : List ℕ) (at other : ℕ) (name word : List ℕ) → IsFaulty source at name → IsFaulty source other word → (at ≡ other) × (name ≡ word)

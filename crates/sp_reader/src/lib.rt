@@ -5,5 +5,5 @@ mod kinds;
 mod laws;
 mod source;
 
-pub use laws::{accepted_is_not_refused, one_model};
+pub use laws::{accepted_is_not_refused, one_model, one_refusal};
 pub use source::{ReaderError, read_model};

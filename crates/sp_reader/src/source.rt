@@ -14,7 +14,8 @@ use std::alloc::{AllocError, Global};
 /// Why bytes are no model.
 #[derive(Drop)]
 pub enum ReaderError {
-    /// They are refused for what begins at this byte, for the reason with this name.
+    /// They are refused at this byte, counted from 0 (the number of bytes where nothing stands there), for the reason with
+    /// this name.
     Refused { at: u64, kind: Name },
     NoMemory,
 }
@@ -29,7 +30,7 @@ impl From<NoMemory> for ReaderError {
     }
 }
 
-/// The model that bytes mean.
+/// The model that bytes mean, or where and why they are refused.
 pub fn read_model(alloc: Global, source: &[u8]) -> Result<Model, ReaderError>
     ensures model { IfOk result (λ model. Reads source.now model) }
     ensures refused { (at : ℕ) (kind : List ℕ) → result ≡ Err (ReaderError.Refused at kind) → IsFaulty source.now at kind }

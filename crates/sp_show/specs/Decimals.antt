@@ -1,5 +1,5 @@
 -- Decimals of ticks.
-use Rattle.std.specs.Prelude.{ℕ, ◌-◌, ◌/◌, ◌%◌, ℤ, pos, List, [], ◌∷◌, ◌++◌, length, replicate, cond, int_lt, unsigned_abs, codes}
+use Rattle.std.specs.Prelude.{ℕ, ◌-◌, ◌/◌, ◌%◌, ℤ, pos, List, [], ◌++◌, length, replicate, cond, int_lt, unsigned_abs, codes}
 use Rattle.std.specs.Fmt.{decimal}
 
 -- the digits of a number, with zeros before them where there are fewer than nine

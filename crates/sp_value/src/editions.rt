@@ -96,7 +96,8 @@ impl Edition {
         &self.members
     }
 
-    /// The id of the greatest member at the weights, of the least id at a tie, and its sum: that of weights times values.
+    /// The id of the greatest member at the weights, of the least id at a tie, and its sum: that of weights times values, in ticks
+    /// times weight.
     pub fn greatest(&self, alloc: Global, weights: &Weights) -> Result<(u64, i128), NoMemory>
         requires { weights.now.shape ≡ shape_of self.now.task.model }
         ensures { let m = problem self.now.task.model in let w = weights_of self.now.task.model weights.now in IfOk result (λ r. (r.0 ≡ (greatest_member m (members_in self.now) w).id) × (r.1 ≡ value m (members_in self.now) w)) }
@@ -105,7 +106,8 @@ impl Edition {
         Ok((self.members.at(place).id, sum))
     }
 
-    /// The place of the greatest member at the weights, of the least id at a tie, and its sum: that of weights times values.
+    /// The place of the greatest member at the weights, of the least id at a tie, and its sum: that of weights times values, in
+    /// ticks times weight.
     pub fn greatest_place(&self, alloc: Global, weights: &Weights) -> Result<(u64, i128), NoMemory>
         requires { weights.now.shape ≡ shape_of self.now.task.model }
         ensures { let m = problem self.now.task.model in let w = weights_of self.now.task.model weights.now in IfOk result (λ r. IsGreatestAt self.now w r.0 × (r.1 ≡ value m (members_in self.now) w)) }

@@ -10,8 +10,10 @@ use std::sync::Arc;
 pub enum Event {
     /// A backup at a sampled belief on the edition of the number `base`.
     Settle {
+        /// The number of the sampled belief.
         belief: u64,
         base: u64,
+        /// The number of the action.
         action: u64,
         /// The record that each joint observation leads to, in the order of the observations' numbers.
         links: Ids,

@@ -19,15 +19,16 @@ pub enum Explore {
 /// What a plan is asked for.
 #[derive(Clone, Copy, Drop)]
 pub struct Options {
-    /// How many beliefs are sampled.
+    /// How many beliefs are sampled: 1 to 4096.
     pub beliefs: u64,
-    /// How many beliefs are sampled one after another from the initial one on.
+    /// How many beliefs are sampled one after another from the initial one on: 1 to 4096.
     pub depth: u64,
-    /// How many stages are planned.
+    /// How many stages are planned: 1 to 1000.
     pub stages: u64,
+    /// The seed of the random words.
     pub seed: u64,
     pub explore: Explore,
-    /// Whether dominated members are pruned.
+    /// Whether dominated members are pruned after each stage but the last.
     pub prune: bool,
 }
 

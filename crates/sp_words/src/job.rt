@@ -51,7 +51,7 @@ pub struct PlanWords {
     pub seed: u64,
     /// How many threads plan beside the caller; none, today.
     pub workers: u64,
-    /// Whether dominated vectors are dropped after each stage.
+    /// Whether dominated vectors are dropped after each stage but the last.
     pub prune: bool,
     /// Whether the sampled beliefs explore the actions in turn, and not at random.
     pub sweep: bool,
