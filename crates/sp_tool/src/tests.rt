@@ -283,33 +283,34 @@ fn large_texts_are_accepted(rt: HostRuntime) -> Result<(), Fail> {
     Ok(())
 }
 
+/// The numbers of a generated model: its variables, its states, and K, which is 3(n + 1) + 1 for n variables and one observation
+/// variable.
+fn generated_line(alloc: Global, number: u64) -> Result<String, Fail> {
+    let variables = number.wrapping_add(8);
+    let states = 256u64.wrapping_mul(1 << (number % 64));
+    let units = number.wrapping_mul(3).wrapping_add(28);
+    let line = format!(in alloc;
+        "ok variables {variables} states {states} observations 2 actions 6 least -20.000000000 units {units}\n"
+    )?;
+    Ok(line)
+}
+
 #[test]
 fn generated_models_are_accepted(rt: HostRuntime) -> Result<(), Fail> {
     let alloc = rt.alloc();
-    let rows = [
-        (
-            "gen 0",
-            "ok variables 8 states 256 observations 2 actions 6 least -20.000000000 units 28\n",
-        ),
-        (
-            "gen 12",
-            "ok variables 20 states 1048576 observations 2 actions 6 least -20.000000000 units 64\n",
-        ),
-        (
-            "gen 16",
-            "ok variables 24 states 16777216 observations 2 actions 6 least -20.000000000 units 76\n",
-        ),
+    let check = Row {
+        words: CHECK,
+        ..LISTENS
+    };
+    let calls = [
+        "gen 0", "gen 1", "gen 2", "gen 3", "gen 4", "gen 5", "gen 6", "gen 7", "gen 8", "gen 9",
+        "gen 10", "gen 11", "gen 12", "gen 13", "gen 14", "gen 15", "gen 16",
     ];
-    for (words, line) in &rows {
+    for number in 0..17 {
+        let words = calls[number as usize];
         let made = call(alloc, &Row { words, ..LISTENS }, b"")?;
-        let given = call(
-            alloc,
-            &Row {
-                words: CHECK,
-                ..LISTENS
-            },
-            made.out.text(),
-        )?;
+        let given = call(alloc, &check, made.out.text())?;
+        let line = generated_line(alloc, number)?;
         assert_eq!(rt; given.out.text(), line.as_bytes());
     }
     Ok(())
