@@ -1,12 +1,11 @@
 -- The text of a run tells its events.
-use Rattle.std.proofs.Common.{◌≡◌, ◌≢◌, ℕ, zero, suc, ◌+◌, ◌<◌, ◌≤◌, ◌^◌, List, [], ◌∷◌, ◌++◌, length, get_or, refl, ap, sym, ◌∙◌, append_assoc, arith, codes, slice_index}
+use Rattle.std.proofs.Common.{◌≡◌, ◌≢◌, ℕ, suc, ◌<◌, ◌≤◌, List, [], ◌∷◌, ◌++◌, length, get_or, refl, ap, sym, ◌∙◌, append_assoc, arith, codes, slice_index}
 use Rattle.std.specs.List.{AllByRecursion}
 use Rattle.std.specs.Fmt.{decimal}
-use Rattle.std.specs.Str.Parse.{AllDigits, digits_value}
-use Rattle.std.proofs.lemmas.Str.Parse.{numerals_by_value, tells_digits, IsNumeralModel, digit_at}
+use Rattle.std.proofs.lemmas.Str.Parse.{digit_at}
 use Rattle.std.proofs.lemmas.Fmt.{decimal_is_IsNumeral, decimal_injective}
 use Rattle.sp_theory.specs.Book.{Event, settle, publish, prune, end}
-use Rattle.sp_planfile.specs.RunText.{spaced, spaced_pairs, event_line, event_lines, events_text, IsSmall, HasSmall, TextTellsEvents}
+use Rattle.sp_planfile.specs.RunText.{spaced, spaced_pairs, event_line, event_lines, IsSmall, IsSmallPair, HasSmall, TextTellsEvents}
 
 -- the list hasn't that byte
 abbrev pub Lacks : ℕ → List ℕ → Type 0
@@ -40,7 +39,7 @@ spaced_lacks : (numbers : List ℕ) → AllByRecursion IsSmall numbers → Lacks
 spaced_lacks [] small = tt
 spaced_lacks (n ∷ numbers) small = (λ e. omega (arith, e), lacks-append 10 (decimal n) (spaced numbers) (decimal_lacks 10 n (omega arith) small.0) (spaced_lacks numbers small.1))
 
-pairs_lack : (pairs : List (ℕ × ℕ)) → AllByRecursion (λ pair. IsSmall pair.0 × IsSmall pair.1) pairs → Lacks 10 (spaced_pairs pairs)
+pairs_lack : (pairs : List (ℕ × ℕ)) → AllByRecursion IsSmallPair pairs → Lacks 10 (spaced_pairs pairs)
 pairs_lack [] small = tt
 pairs_lack ((x, y) ∷ pairs) small = (
   λ e. omega (arith, e),
@@ -100,7 +99,7 @@ spaced_tells (x ∷ xs) (y ∷ ys) a b e =
     let rest = spaced_tells xs ys a.1 b.1 one.1 in
     cc (one.0, rest)
 
-pairs_tell : (xs ys : List (ℕ × ℕ)) → AllByRecursion (λ pair. IsSmall pair.0 × IsSmall pair.1) xs → AllByRecursion (λ pair. IsSmall pair.0 × IsSmall pair.1) ys → spaced_pairs xs ≡ spaced_pairs ys → xs ≡ ys
+pairs_tell : (xs ys : List (ℕ × ℕ)) → AllByRecursion IsSmallPair xs → AllByRecursion IsSmallPair ys → spaced_pairs xs ≡ spaced_pairs ys → xs ≡ ys
 pairs_tell [] [] a b e = refl
 pairs_tell [] ((x, y) ∷ ys) a b e = cc
 pairs_tell ((x, y) ∷ xs) [] a b e = cc
@@ -153,7 +152,7 @@ lines_tell (x ∷ xs) (y ∷ ys) tail count a b e =
     cc (first, rest)
 
 pub text_tells : TextTellsEvents
-text_tells events others few few' a b e =
+text_tells events others a b e =
     let counts : decimal (length events) ++ (10 ∷ (event_lines events ++ codes "sessions 0\ndone\n")) ≡ decimal (length others) ++ (10 ∷ (event_lines others ++ codes "sessions 0\ndone\n")) = cc e in
-    let one = cut_at 10 (decimal (length events)) (decimal (length others)) (event_lines events ++ codes "sessions 0\ndone\n") (event_lines others ++ codes "sessions 0\ndone\n") (decimal_lacks 10 (length events) (omega arith) few) (decimal_lacks 10 (length others) (omega arith) few') counts in
-    lines_tell events others (codes "sessions 0\ndone\n") (decimal_injective (length events) (length others) few few' one.0) a b one.1
+    let one = cut_at 10 (decimal (length events)) (decimal (length others)) (event_lines events ++ codes "sessions 0\ndone\n") (event_lines others ++ codes "sessions 0\ndone\n") (decimal_lacks 10 (length events) (omega arith) a.0) (decimal_lacks 10 (length others) (omega arith) b.0) counts in
+    lines_tell events others (codes "sessions 0\ndone\n") (decimal_injective (length events) (length others) a.0 b.0 one.0) a.1 b.1 one.1

@@ -34,14 +34,21 @@ events_text events = codes "events " ++ (decimal (length events) ++ (10 ∷ (eve
 abbrev pub IsSmall : ℕ → Type 0
 IsSmall n = n < 2 ^ 64
 
+-- both numbers of a pair are of 64 bits
+abbrev pub IsSmallPair : ℕ × ℕ → Type 0
+IsSmallPair pair = IsSmall pair.0 × IsSmall pair.1
+
 -- the numbers of an event are of 64 bits
 abbrev pub HasSmall : Event → Type 0
 HasSmall (settle k e a links) = AllByRecursion IsSmall (k ∷ e ∷ a ∷ links)
 HasSmall publish = Unit {0}
-HasSmall (prune pairs) = AllByRecursion (λ pair. IsSmall pair.0 × IsSmall pair.1) pairs
+HasSmall (prune pairs) = AllByRecursion IsSmallPair pairs
 HasSmall end = Unit {0}
+
+-- the count of the events and all their numbers are of 64 bits
+abbrev pub AreSmall : List Event → Type 0
+AreSmall events = IsSmall (length events) × AllByRecursion HasSmall events
 
 -- different events have different texts, where their numbers and their count are of 64 bits
 abbrev pub TextTellsEvents : Type 0
-TextTellsEvents = (events others : List Event) → IsSmall (length events) → IsSmall (length others) → AllByRecursion HasSmall events → AllByRecursion HasSmall others
-    → events_text events ≡ events_text others → events ≡ others
+TextTellsEvents = (events others : List Event) → AreSmall events → AreSmall others → events_text events ≡ events_text others → events ≡ others

@@ -1,18 +1,17 @@
 -- The table: what one cause bars of the others.
 use Rattle.std.proofs.Common.{◌≡◌, ℕ, ◌+◌, ◌<◌, ◌≤◌, List, [], ◌∷◌, length, Option, Some, None, Result, refl, sym, ◌∙◌, Contains, arith, replicate, OnOk, OnErr, Ok, Err, inl, inr, codes}
+use Rattle.std.specs.Prelude.{⊤}
 use Rattle.std.proofs.lemmas.List.{append-nil, length-replicate}
-use Rattle.sp_outside.specs.Folder.{Folder}
+use Rattle.sp_outside.specs.Folder.{Folder, IsLater}
 use Rattle.sp_outside.specs.Written.{Written}
 use Rattle.sp_outside.specs.Counts.{HasCause}
 use Rattle.sp_outside.specs.Bytes.{Appended, AppendedPart}
-use Rattle.sp_model.specs.declared.parts.Parts.{Parts}
 use Rattle.sp_gen.specs.Models.{generated_text}
 use Rattle.sp_words.specs.declared.job.PlanWords.{PlanWords}
 use Rattle.sp_words.specs.declared.job.Job.{Job}
 use Rattle.sp_words.specs.declared.job.Job.TheVariants.{Plan, Check, Gen, Trial}
 use Rattle.sp_words.specs.Jobs.{Asks}
-use Rattle.sp_tool.specs.Texts.{check_line, IsPlanText}
-use Rattle.sp_tool.specs.Table.{model_limit, names, Accepts, TellsFault, Bars, Allows, Refuses, Told, Saw, Holds, Call, Cause, Tells, NoFault, Answers}
+use Rattle.sp_tool.specs.Table.{model_limit, names, Accepts, Bars, Allows, Grants, Refuses, Told, Saw, Holds, Call, Cause, Tells, NoFault, Answers}
 use Rattle.sp_tool.specs.declared.status.Status.{Status}
 use Rattle.sp_tool.specs.declared.status.Status.TheVariants.{Done, Refused, Usage, NoMemory, ReadFault, WriteFault}
 use Rattle.sp_tool.specs.Faults.{status_of, line_of, TellsRefusal, HindersFile, Hinders}
@@ -35,18 +34,31 @@ tells line err gone (Err x) whole part cause = record { part = inr part; whole =
 pub tells_nothing : (err : Written) → Tells [] err err
 tells_nothing err = record { part = inl (λ b e. rw append-nil e); whole = λ still b e. rw append-nil e }
 
+-- the files of which a job may write a text are accepted
+granted : (job : Job) (files : List (List ℕ)) (text : List ℕ) → Allows job files text → Grants job files
+granted (Plan p) [] text may = elim may [ ]
+granted (Plan p) (source ∷ []) text may = (may.0, (may.1.0, may.1.1, tt))
+granted (Plan p) (source ∷ (next ∷ more)) text may = elim may [ ]
+granted (Check name) [] text may = elim may [ ]
+granted (Check name) (source ∷ []) text may = (may.0, (may.1.0, may.1.1, tt))
+granted (Check name) (source ∷ (next ∷ more)) text may = elim may [ ]
+granted (Gen number) [] text may = tt
+granted (Gen number) (source ∷ more) text may = elim may [ ]
+granted (Trial number) [] text may = (may.0, may.1)
+granted (Trial number) (source ∷ more) text may = elim may [ ]
+
 -- a job has read the files that it names where its files are accepted or refused
-allowed_length : (job : Job) (files : List (List ℕ)) (text : List ℕ) → Allows job files text → length files ≡ length (names job)
-allowed_length (Plan p) [] text may = elim may [ ]
-allowed_length (Plan p) (source ∷ []) text may = refl
-allowed_length (Plan p) (source ∷ (next ∷ more)) text may = elim may [ ]
-allowed_length (Check name) [] text may = elim may [ ]
-allowed_length (Check name) (source ∷ []) text may = refl
-allowed_length (Check name) (source ∷ (next ∷ more)) text may = elim may [ ]
-allowed_length (Gen number) [] text may = refl
-allowed_length (Gen number) (source ∷ more) text may = elim may [ ]
-allowed_length (Trial number) [] text may = refl
-allowed_length (Trial number) (source ∷ more) text may = elim may [ ]
+granted_length : (job : Job) (files : List (List ℕ)) → Grants job files → length files ≡ length (names job)
+granted_length (Plan p) [] may = elim may [ ]
+granted_length (Plan p) (source ∷ []) may = refl
+granted_length (Plan p) (source ∷ (next ∷ more)) may = elim may [ ]
+granted_length (Check name) [] may = elim may [ ]
+granted_length (Check name) (source ∷ []) may = refl
+granted_length (Check name) (source ∷ (next ∷ more)) may = elim may [ ]
+granted_length (Gen number) [] may = refl
+granted_length (Gen number) (source ∷ more) may = elim may [ ]
+granted_length (Trial number) [] may = refl
+granted_length (Trial number) (source ∷ more) may = elim may [ ]
 
 refused_length : (job : Job) (files : List (List ℕ)) (line : List ℕ) → Refuses job files line → length files ≡ length (names job)
 refused_length (Plan p) [] line bars = elim bars [ ]
@@ -61,21 +73,21 @@ refused_length (Trial number) [] line bars = refl
 refused_length (Trial number) (source ∷ more) line bars = elim bars [ ]
 
 -- what is accepted isn't refused
-not_barred : (file source line : List ℕ) (P : Parts → Type 0) → Accepts source P → Bars file source line → ⊥
-not_barred file source line P may (inl long) = omega (arith, long.0, may.0)
-not_barred file source line P may (inr told) = not_refused source may.1.0 told.1.0 told.1.1.0 may.1.1 told.1.1.1
+not_barred : (file source line : List ℕ) → Accepts source (λ model. ⊤) → Bars file source line → ⊥
+not_barred file source line may (inl long) = omega (arith, long.0, may.0)
+not_barred file source line may (inr told) = not_refused source may.1.0 told.1.0 told.1.1.0 may.1.1 told.1.1.1
 
-not_both : (job : Job) (files : List (List ℕ)) (line text : List ℕ) → Allows job files text → Refuses job files line → ⊥
-not_both (Plan p) [] line text may bars = elim may [ ]
-not_both (Plan p) (source ∷ []) line text may bars = not_barred p.model source line (λ model. IsPlanText model p text) may bars
-not_both (Plan p) (source ∷ (next ∷ more)) line text may bars = elim may [ ]
-not_both (Check name) [] line text may bars = elim may [ ]
-not_both (Check name) (source ∷ []) line text may bars = not_barred name source line (λ model. text ≡ check_line model) may bars
-not_both (Check name) (source ∷ (next ∷ more)) line text may bars = elim may [ ]
-not_both (Gen number) [] line text may bars = elim bars [ ]
-not_both (Gen number) (source ∷ more) line text may bars = elim bars [ ]
-not_both (Trial number) [] line text may bars = not_refused (generated_text number) may.0 bars.0 bars.1.0 may.1 bars.1.1
-not_both (Trial number) (source ∷ more) line text may bars = elim may [ ]
+not_both : (job : Job) (files : List (List ℕ)) (line : List ℕ) → Grants job files → Refuses job files line → ⊥
+not_both (Plan p) [] line may bars = elim may [ ]
+not_both (Plan p) (source ∷ []) line may bars = not_barred p.model source line may bars
+not_both (Plan p) (source ∷ (next ∷ more)) line may bars = elim may [ ]
+not_both (Check name) [] line may bars = elim may [ ]
+not_both (Check name) (source ∷ []) line may bars = not_barred name source line may bars
+not_both (Check name) (source ∷ (next ∷ more)) line may bars = elim may [ ]
+not_both (Gen number) [] line may bars = elim bars [ ]
+not_both (Gen number) (source ∷ more) line may bars = elim bars [ ]
+not_both (Trial number) [] line may bars = not_refused (generated_text number) may.0 bars.0 bars.1.0 may.1 bars.1.1
+not_both (Trial number) (source ∷ more) line may bars = elim may [ ]
 
 -- the bytes of the files as they are told are those that were seen
 same_files : (store : Folder) (names held seen : List (List ℕ)) → Holds store names held → Saw store names seen → length held ≡ length seen → held ≡ seen
@@ -89,20 +101,20 @@ same_files store (name ∷ names) (h ∷ held) (s ∷ seen) holds saw e =
     cc
 
 -- what is told as accepted isn't seen as refused
-held_allowed : (store : Folder) (job other : Job) (held seen : List (List ℕ)) (line text : List ℕ) → job ≡ other → Holds store (names job) held → Saw store (names other) seen → Allows job held text → Refuses other seen line → ⊥
-held_allowed store job other held seen line text same holds saw may bars =
+held_granted : (store : Folder) (job other : Job) (held seen : List (List ℕ)) (line : List ℕ) → job ≡ other → Holds store (names job) held → Saw store (names other) seen → Grants job held → Refuses other seen line → ⊥
+held_granted store job other held seen line same holds saw may bars =
     let bars' : Refuses job seen line = rw same bars in
     let saw' : Saw store (names job) seen = rw same saw in
-    let e : held ≡ seen = same_files store (names job) held seen holds saw' (allowed_length job held text may ∙ sym (refused_length job seen line bars')) in
-    not_both job held line text may (rw e bars')
+    let e : held ≡ seen = same_files store (names job) held seen holds saw' (granted_length job held may ∙ sym (refused_length job seen line bars')) in
+    not_both job held line may (rw e bars')
 
 -- what is told as refused isn't seen as accepted
 held_refused : (store : Folder) (job other : Job) (held seen : List (List ℕ)) (line text : List ℕ) → job ≡ other → Holds store (names job) held → Saw store (names other) seen → Refuses job held line → Allows other seen text → ⊥
 held_refused store job other held seen line text same holds saw bars may =
-    let may' : Allows job seen text = rw same may in
+    let may' : Grants job seen = rw same (granted other seen text may) in
     let saw' : Saw store (names job) seen = rw same saw in
-    let e : held ≡ seen = same_files store (names job) held seen holds saw' (refused_length job held line bars ∙ sym (allowed_length job seen text may')) in
-    not_both job seen line text may' (rw (← e) bars)
+    let e : held ≡ seen = same_files store (names job) held seen holds saw' (refused_length job held line bars ∙ sym (granted_length job seen may')) in
+    not_both job seen line may' (rw (← e) bars)
 
 module _ (c : Call) where
   usage_of : (status : Status) (line : List ℕ) → Cause c status line → ((job : Job) → ¬ (Asks c.words job)) → Contains (Usage ∷ NoMemory ∷ []) status
@@ -122,25 +134,26 @@ module _ (c : Call) where
     refused_of why line ReadFault cause bars = (1, omega arith, refl)
     refused_of why line WriteFault cause bars = absurd (held_refused c.store job cause.0 files cause.2.0 why cause.2.2.0 (same_job c.words job cause.0 asks cause.1) holds cause.2.1 bars cause.2.2.1)
 
-    complete_of : (text line : List ℕ) (status : Status) → Cause c status line → Allows job files text → NoFault c job → Contains (Done ∷ NoMemory ∷ []) status
-    complete_of text line Done cause may still = (0, omega arith, refl)
-    complete_of text line Refused cause may still = absurd (held_allowed c.store job cause.0 files cause.2.0 line text (same_job c.words job cause.0 asks cause.1) holds cause.2.1 may cause.2.2)
-    complete_of text line Usage cause may still = absurd (cause.0 job asks)
-    complete_of text line NoMemory cause may still = (1, omega arith, refl)
-    complete_of text line ReadFault cause may still =
+    complete_of : (line : List ℕ) (status : Status) → Cause c status line → Grants job files → NoFault c job → Contains (Done ∷ NoMemory ∷ []) status
+    complete_of line Done cause may still = (0, omega arith, refl)
+    complete_of line Refused cause may still = absurd (held_granted c.store job cause.0 files cause.2.0 line (same_job c.words job cause.0 asks cause.1) holds cause.2.1 may cause.2.2)
+    complete_of line Usage cause may still = absurd (cause.0 job asks)
+    complete_of line NoMemory cause may still = (1, omega arith, refl)
+    complete_of line ReadFault cause may still =
         let same = same_job c.words job cause.0 asks cause.1 in
         let named : Contains (names job) cause.2.0 = rw same cause.2.1 in
         absurd (still.reads cause.2.0 named cause.2.2)
-    complete_of text line WriteFault cause may still = absurd (still.writes cause.2.2.3)
+    complete_of line WriteFault cause may still = absurd (still.writes cause.2.2.3)
 
 -- a cause and its line are an answer
-pub answers : (c : Call) (err gone : Written) (status : Status) (line : List ℕ) → Cause c status line → Tells line err gone → (status ≡ Done → gone ≡ err) → Answers c err gone status
-answers c err gone status line cause told quiet = record {
+pub answers : (c : Call) (err gone : Written) (status : Status) (line : List ℕ) → Cause c status line → Tells line err gone → (status ≡ Done → gone ≡ err) → IsLater c.store c.later → Answers c err gone status
+answers c err gone status line cause told quiet later = record {
   cause = (line, cause, told);
   quiet = quiet;
   usage = usage_of c status line cause;
   refused = λ job files why asks holds bars. refused_of c job files asks holds why line status cause bars;
-  complete = λ job files text asks holds may still. complete_of c job files asks holds text line status cause may still;
+  complete = λ job files asks holds may still. complete_of c job files asks holds line status cause may still;
+  later = later;
 }
 
 -- what hinders a job is a cause
@@ -163,11 +176,11 @@ not_done Faults.WriteFault e = cc
 pub ends : (words : List (List ℕ)) (store later : Folder) (out end err gone : Written) (fault : Fault) (line : List ℕ) (status : Status) {T E : Type 0} (r : Result T E)
     → Cause (record { words = words; store = store; later = later; out = out; end = end }) (status_of fault) (line_of fault)
     → line ≡ line_of fault → status ≡ status_of fault
-    → OnOk r (Appended err.bytes gone.bytes line) → OnErr r (AppendedPart err.bytes gone.bytes line) → HasCause err.faults gone.faults r
+    → OnOk r (Appended err.bytes gone.bytes line) → OnErr r (AppendedPart err.bytes gone.bytes line) → HasCause err.faults gone.faults r → IsLater store later
     → Answers (record { words = words; store = store; later = later; out = out; end = end }) err gone status
-ends words store later out end err gone fault line status r cause e s whole part risen =
+ends words store later out end err gone fault line status r cause e s whole part risen is_later =
     let cause' : Cause (record { words = words; store = store; later = later; out = out; end = end }) status line = rw (e, s) cause in
-    answers (record { words = words; store = store; later = later; out = out; end = end }) err gone status line cause' (tells line err gone r whole part risen) (λ done. absurd (not_done fault (sym s ∙ done)))
+    answers (record { words = words; store = store; later = later; out = out; end = end }) err gone status line cause' (tells line err gone r whole part risen) (λ done. absurd (not_done fault (sym s ∙ done))) is_later
 
 -- what hinders the model of a file hinders the job that names it
 pub plan_hindered : (p : PlanWords) (store later : Folder) (fault : Fault) → HindersFile p.model store later fault → Hinders (Plan p) store later fault

@@ -1,5 +1,5 @@
 -- Why a call isn't done, with the status and the line of each.
-use Rattle.std.specs.Prelude.{◌≡◌, ℕ, List, codes, Contains, string_bytes, ⊤, ◌⊎◌}
+use Rattle.std.specs.Prelude.{◌≡◌, ℕ, List, Contains, string_bytes, ⊤}
 use Rattle.sp_outside.specs.Folder.{Folder}
 use Rattle.sp_outside.specs.Counts.{Rose}
 use Rattle.sp_words.specs.declared.job.Job.{Job}

@@ -1,6 +1,6 @@
 -- Which status a call may give, and what it writes.
 use Rattle.std.specs.Prelude.{◌≡◌, ℕ, ◌<◌, ◌≤◌, List, [], ◌∷◌, length, Option, Some, Contains, codes, ⊤, ◌⊎◌}
-use Rattle.sp_outside.specs.Folder.{Folder}
+use Rattle.sp_outside.specs.Folder.{Folder, IsLater}
 use Rattle.sp_outside.specs.Written.{Written}
 use Rattle.sp_outside.specs.Counts.{Rose}
 use Rattle.sp_outside.specs.Bytes.{Appended, AppendedPart, IfTold}
@@ -47,6 +47,14 @@ Allows (Check name) (source ∷ []) text = Accepts source (λ model. text ≡ ch
 Allows (Gen number) [] text = text ≡ generated_text number
 Allows (Trial number) [] text = (model : Parts) × Reads (generated_text number) model × IsTrialText model number text
 Allows job files text = ⊥
+
+-- the bytes of the file that a job names are accepted; for a trial the generated text is
+abbrev pub Grants : Job → List (List ℕ) → Type 0
+Grants (Plan p) (source ∷ []) = Accepts source (λ model. ⊤)
+Grants (Check name) (source ∷ []) = Accepts source (λ model. ⊤)
+Grants (Gen number) [] = ⊤
+Grants (Trial number) [] = (model : Parts) × Reads (generated_text number) model
+Grants job files = ⊥
 
 -- the last of these bytes is refused, which this line tells; for a trial it is the generated text
 abbrev pub Refuses : Job → List (List ℕ) → List ℕ → Type 0
@@ -115,12 +123,13 @@ pub record NoFault (c : Call) (job : Job) : Type 0 where
   pub reads : (name : List ℕ) → Contains (names job) name → ¬ (Rose (c.store.faults name) (c.later.faults name))
   pub writes : ¬ (Rose c.out.faults c.end.faults)
 
--- a status that has its cause, and that is one which words and files ask for
+-- a status that has its cause, and that is one which words and files ask for; no content of the store has changed
 pub record Answers (c : Call) (err gone : Written) (status : Status) : Type 0 where
   pub cause : (line : List ℕ) × Cause c status line × Tells line err gone
   pub quiet : status ≡ Done → gone ≡ err
   pub usage : ((job : Job) → ¬ (Asks c.words job)) → Contains (Usage ∷ NoMemory ∷ []) status
   pub refused : (job : Job) (files : List (List ℕ)) (line : List ℕ) → Asks c.words job → Holds c.store (names job) files
       → Refuses job files line → Contains (Refused ∷ ReadFault ∷ NoMemory ∷ []) status
-  pub complete : (job : Job) (files : List (List ℕ)) (text : List ℕ) → Asks c.words job → Holds c.store (names job) files
-      → Allows job files text → NoFault c job → Contains (Done ∷ NoMemory ∷ []) status
+  pub complete : (job : Job) (files : List (List ℕ)) → Asks c.words job → Holds c.store (names job) files
+      → Grants job files → NoFault c job → Contains (Done ∷ NoMemory ∷ []) status
+  pub later : IsLater c.store c.later

@@ -12,7 +12,7 @@ use Rattle.sp_choose.specs.Machines.{Machine, uniform, sweep}
 use Rattle.sp_value.specs.declared.tasks.Options.{Options}
 use Rattle.sp_value.specs.declared.tasks.Explore.TheVariants.{Uniform, Sweep}
 use Rattle.sp_value.specs.Tasks.{TaskParts}
-use Rattle.sp_planfile.specs.RunText.{events_text}
+use Rattle.sp_planfile.specs.RunText.{events_text, AreSmall}
 use Rattle.sp_planner.specs.declared.summary.Summary.{Summary}
 use Rattle.sp_planner.specs.Planned.{IsPlanned, IsSummaryFor}
 use Rattle.sp_words.specs.declared.job.PlanWords.{PlanWords}
@@ -42,12 +42,18 @@ options_of p = record { beliefs = p.beliefs; depth = p.depth; stages = p.stages;
 abbrev pub chooser_of : Bool → Machine
 chooser_of by_turns = cond by_turns (sweep 0) uniform
 
--- the text is that of the events that one thread plans for the model
+-- the text is that of the events that one thread plans for the model; their count and their numbers are of 64 bits
 pub record IsPlanText (model : Parts) (p : PlanWords) (text : List ℕ) : Type 0 where
   pub task : TaskParts
   pub events : List Event
   pub planned : IsPlanned model (options_of p) (chooser_of p.sweep) task events
+  pub small : AreSmall events
   pub is : text ≡ events_text events
+
+-- a text is that of one list of events only
+abbrev pub OnePlan : Type 0
+OnePlan =
+    (model other : Parts) (p q : PlanWords) (text : List ℕ) (one : IsPlanText model p text) (two : IsPlanText other q text) → one.events ≡ two.events
 
 -- ---- trial
 -- what a trial of a number plans: 100 beliefs of depth 10 and 5 stages, with the number as its seed

@@ -3,11 +3,13 @@
 
 mod fault;
 mod file;
+mod laws;
 mod lines;
 mod run;
 mod status;
 mod texts;
 
+pub use laws::one_plan;
 pub use run::run_plain;
 pub use status::Status;
 

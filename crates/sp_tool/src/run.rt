@@ -58,13 +58,14 @@ fn work<S: Store, K: Sink>(
     out: &mut K,
 ) -> Result<(), Fault>
     requires { map (λ b. machine b) choosers.items ≡ uniform ∷ sweep 0 ∷ [] }
-    ensures { let call : Call = record {
+    ensures cause { let call : Call = record {
       words = map string_bytes words.now;
       store = S.folder store.old;
       later = S.folder store.new;
       out = K.written out.old;
       end = K.written out.new;
     } in MatchResult result (λ _. Cause call Status.Done []) (λ f. Cause call (status_of f) (line_of f)) }
+    ensures later { IsLater (S.folder store.old) (S.folder store.new) }
 {
     let job = match read_words(alloc, words) {
         Ok(job) => job,

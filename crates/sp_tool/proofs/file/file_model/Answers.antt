@@ -1,7 +1,7 @@
 use Rattle.std.proofs.Common.{◌≡◌, ◌∙◌, inl, ap, rules}
 use Rattle.sp_tool.specs.Table.{model_limit}
 use Rattle.sp_tool.specs.Lines.{too_long_line}
-use Rattle.sp_tool.proofs.TableLemmas.{some_longer, file_hindered}
+use Rattle.sp_tool.proofs.TableLemmas.{some_longer}
 use Rattle.sp_tool.proofs.file.file_model.Goals as goal
 
 pub returns-in-Err-TooLong-clause-fault : goal.returns-in-Err-TooLong-clause-fault

@@ -1,4 +1,4 @@
-use Rattle.std.proofs.Common.{[], ◌∷◌, string_bytes}
+use Rattle.std.proofs.Common.{[], ◌∷◌}
 use Rattle.sp_tool.proofs.TableLemmas.{plan_hindered}
 use Rattle.sp_tool.proofs.run.plan_job.Goals as goal
 

@@ -2,11 +2,11 @@ use Rattle.std.proofs.Common.{◌++◌, map, string_bytes, ap, ◌∙◌, refl, 
 use Rattle.sp_tool.proofs.TableLemmas.{hindered}
 use Rattle.sp_tool.proofs.run.work.Goals as goal
 
-pub returns-in-Err : goal.returns-in-Err
-returns-in-Err g c = hindered (map string_bytes c.args.words.now) (g.S.Store.folder c.args.store.now) (g.S.Store.folder c.text_for.new.store) (g.K.Sink.written c.args.out.now) c.in-Ok.job c.in-Err.fault c.in-Ok.ensures.asks c.in-Err.ensures.fault
+pub returns-in-Err-clause-cause : goal.returns-in-Err-clause-cause
+returns-in-Err-clause-cause g c = hindered (map string_bytes c.args.words.now) (g.S.Store.folder c.args.store.now) (g.S.Store.folder c.text_for.new.store) (g.K.Sink.written c.args.out.now) c.in-Ok.job c.in-Err.fault c.in-Ok.ensures.asks c.in-Err.ensures.fault
 
-pub returns-in-Ok-write_whole : goal.returns-in-Ok-write_whole
-returns-in-Ok-write_whole g c =
+pub returns-in-Ok-write_whole-clause-cause : goal.returns-in-Ok-write_whole-clause-cause
+returns-in-Ok-write_whole-clause-cause g c =
     let t = c.in-Ok-text_for.ensures.text in (
       c.in-Ok.job,
       c.in-Ok.ensures.asks,
@@ -22,8 +22,8 @@ returns-in-Ok-write_whole g c =
       ),
     )
 
-pub returns : goal.returns
-returns g c =
+pub returns-clause-cause : goal.returns-clause-cause
+returns-clause-cause g c =
     let t = c.in-Ok-text_for.ensures.text in
     let part = rw c.as_bytes.ensures.value at c.in-Err-write_whole.ensures.part in (
       c.in-Ok.job,
@@ -41,5 +41,5 @@ returns g c =
       ),
     )
 
-pub returns-in-Err-Usage : goal.returns-in-Err-Usage
-returns-in-Err-Usage g c = (c.in-Err-Usage.ensures.usage (ap Err c.in-Err-Usage.field-0-is), refl, refl, refl)
+pub returns-in-Err-Usage-clause-cause : goal.returns-in-Err-Usage-clause-cause
+returns-in-Err-Usage-clause-cause g c = (c.in-Err-Usage.ensures.usage (ap Err c.in-Err-Usage.field-0-is), refl, refl, refl)
