@@ -71,7 +71,10 @@ one_reason source at other name word (inr (inl outside)) (inr (inr broken)) = ab
 one_reason source at other name word (inr (inr broken)) (inr (inl outside)) = absurd (no_tree source other outside.0 broken.0 outside.1 broken.1)
 one_reason source at other name word (inr (inr broken)) (inr (inr again)) =
     let trees = one_tree source broken.0 again.0 broken.1 again.1 in
-    let both : ◌≡◌ {A = Result Parts Refusal} (Err (record { at = at; kind = broken.2.0 })) (Err (record { at = other; kind = again.2.0 })) = sym broken.2.1 ∙ ap (meaning source) trees ∙ again.2.1 in
-    let places : at ≡ other = cc in
-    let kinds : broken.2.0 ≡ again.2.0 = cc in
-    (places, broken.2.2 ∙ ap (λ t. kind_text source t broken.2.0) trees ∙ ap (kind_text source again.0) kinds ∙ sym again.2.2)
+    let one : Refusal = record { at = at; kind = broken.2.0 } in
+    let two : Refusal = record { at = other; kind = again.2.0 } in
+    let both : ◌≡◌ {A = Result Parts Refusal} (Err one) (Err two) = sym broken.2.1 ∙ ap (meaning source) trees ∙ again.2.1 in
+    let same : one ≡ two = cc in (
+      ap (λ (r : Refusal). r.at) same,
+      broken.2.2 ∙ ap (λ t. kind_text source t broken.2.0) trees ∙ ap (λ (r : Refusal). kind_text source again.0 r.kind) same ∙ sym again.2.2,
+    )
