@@ -2,6 +2,9 @@
 mod backups;
 mod beliefs;
 mod books;
+mod candidates;
+mod drawn;
+mod models;
 mod plans;
 mod pruning;
 mod runs;

@@ -10,32 +10,18 @@ use crate::tests::backups::rows::{
     Row, coin_row, fine_next_costs_row, fine_rows_row, hasty_tiger_row, next_costs_row,
     small_coin_row, three_places_row, ties_row, tiger_row, wide_signs_row,
 };
+use crate::tests::candidates::{push_candidate, push_values};
+use crate::tests::models::model_of;
 use sp_backup::{Projections, assemble, point_backup};
 use sp_choose::{Chooser, Uniform};
 use sp_core::Book;
-use sp_dd::Scope;
-use sp_model::{Func, Model};
+use sp_model::Model;
 use sp_planner::plan;
-use sp_reader::read_model;
-use sp_value::{Candidate, Edition, Explore, Member, Options, Task};
-use sp_yardstick::diagrams::is_point;
-use sp_yardstick::scopes::has_slot;
+use sp_value::{Edition, Explore, Member, Options, Task};
 use std::alloc::Global;
 use std::process::Abort;
 use std::sync::Arc;
 use std::test::Fail;
-
-/// The model of a text in pieces.
-fn model_of(alloc: Global, pieces: &[&str]) -> Result<Model, Fail> {
-    let mut text = String::new(alloc);
-    for piece in pieces {
-        text.push_str(piece)?;
-    }
-    match read_model(alloc, text.as_bytes()) {
-        Ok(model) => Ok(model),
-        Err(_) => Err(Fail::new("the model isn't accepted")),
-    }
-}
 
 /// The task of a model with beliefs sampled by the words of seed 5.
 fn task_of(alloc: Global, model: Model, beliefs: u64, depth: u64) -> Result<Arc<Task>, Fail> {
@@ -56,49 +42,6 @@ fn task_of(alloc: Global, model: Model, beliefs: u64, depth: u64) -> Result<Arc<
     let chooser: Box<dyn Chooser + Send> = Box::new(alloc, Uniform)?;
     let run = plan(alloc, model, options, chooser)?;
     Ok(run.task)
-}
-
-/// A point whose state has that number. The last variable runs fastest.
-fn state_point(alloc: Global, scope: &Scope, number: u64) -> Result<Vec<u64>, Fail> {
-    let mut point = vec![in alloc; 0u64; scope.slots() as usize]?;
-    let mut rest = number;
-    for variable in (0..scope.variables()).rev() {
-        let slot = variable.wrapping_mul(2);
-        if !has_slot(scope, slot) {
-            return Err(Fail::new("a variable without a slot"));
-        }
-        let size = scope.size(slot).max(1);
-        if let Some(coordinate) = point.get_mut(slot as usize) {
-            *coordinate = rest % size;
-        }
-        rest = rest / size;
-    }
-    Ok(point)
-}
-
-/// Adds the values of a vector at all states.
-fn push_values(text: &mut String, alloc: Global, model: &Model, vector: &Func) -> Result<(), Fail> {
-    for number in 0..model.state_count() {
-        let point = state_point(alloc, vector.scope(), number)?;
-        if !is_point(vector, point.as_slice()) {
-            return Err(Fail::new("no point of a state"));
-        }
-        let value = vector.value_at(point.as_slice());
-        write!(text, " {value}")?;
-    }
-    text.push_str("\n")?;
-    Ok(())
-}
-
-/// Adds the line of a candidate.
-fn push_candidate(text: &mut String, alloc: Global, candidate: &Candidate) -> Result<(), Fail> {
-    let base: &Edition = candidate.base();
-    write!(text, "on {}: {},", base.number(), candidate.action())?;
-    for link in candidate.links().as_slice() {
-        write!(text, " {link}")?;
-    }
-    text.push_str(",")?;
-    push_values(text, alloc, base.task().model(), candidate.vector())
 }
 
 /// Whether a member has that id.

@@ -2,29 +2,17 @@
 //! goes through lists of states.
 ghost use Rattle.std.specs.Prelude.{◌≡◌, IfOk, IfSome};
 
+use crate::tests::models::model_of;
 use crate::tests::texts_beliefs::{one_state, robot, tiger};
 use sp_belief::{Carried, NextError, initial, next};
 use sp_choose::{Chooser, Sweep, Uniform};
 use sp_model::functions::{constant, dot};
 use sp_model::{Model, Samples, Weights};
-use sp_reader::read_model;
 use sp_sampler::sample;
 use sp_yardstick::diagrams::{has_same_scope, is_on_unprimed, is_point, is_within};
 use std::alloc::Global;
 use std::process::Abort;
 use std::test::Fail;
-
-/// The model of a text in pieces.
-fn model_of(alloc: Global, pieces: &[&str]) -> Result<Model, Fail> {
-    let mut text = String::new(alloc);
-    for piece in pieces {
-        text.push_str(piece)?;
-    }
-    match read_model(alloc, text.as_bytes()) {
-        Ok(model) => Ok(model),
-        Err(_) => Err(Fail::new("the text isn't accepted")),
-    }
-}
 
 /// The weight of a state: the value where each slot but the unprimed ones has its first value.
 fn weight_at(alloc: Global, weights: &Weights, state: &[u64]) -> Result<i128, Fail> {

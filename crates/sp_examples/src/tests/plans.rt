@@ -1,6 +1,7 @@
 //! Planning on one thread.
 
-use crate::tests::runs::{SMALL, are_options, lines, model_of, planned};
+use crate::tests::models::model_of;
+use crate::tests::runs::{SMALL, are_options, lines, planned};
 use crate::tests::texts_books::{path, place, robot, tiger};
 use sp_choose::{Chooser, Uniform};
 use sp_planner::{Summary, summarize};
@@ -13,7 +14,7 @@ fn summed(alloc: Global, text: &str, options: Options) -> Result<Summary, Fail> 
     if !are_options(&options) {
         return Err(Fail::new("options out of range"));
     }
-    let model = model_of(alloc, text)?;
+    let model = model_of(alloc, &[text])?;
     let chooser: Box<dyn Chooser + Send> = Box::new(alloc, Uniform)?;
     let summary = summarize(alloc, model, options, chooser)?;
     Ok(summary)

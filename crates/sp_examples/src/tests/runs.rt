@@ -3,12 +3,11 @@
 ghost use Rattle.std.specs.Prelude.{IsTrue};
 ghost use Rattle.sp_planner.specs.Planned.{AreOptions};
 
+use crate::tests::models::model_of;
 use sp_backup::{Projections, point_backup};
 use sp_choose::{Chooser, Uniform};
 use sp_core::{Book, Settled};
-use sp_model::Model;
 use sp_planner::plan;
-use sp_reader::read_model;
 use sp_value::{Candidate, Edition, Event, Events, Explore, Options, Run};
 use std::alloc::Global;
 use std::sync::Arc;
@@ -23,14 +22,6 @@ pub(crate) const SMALL: Options = Options {
     explore: Explore::Uniform,
     prune: false,
 };
-
-/// The model of a text.
-pub(crate) fn model_of(alloc: Global, text: &str) -> Result<Model, Fail> {
-    match read_model(alloc, text.as_bytes()) {
-        Ok(model) => Ok(model),
-        Err(_) => Err(Fail::new("no model")),
-    }
-}
 
 /// Whether a plan can be asked for these options.
 pub(crate) fn are_options(options: &Options) -> bool
@@ -49,7 +40,7 @@ pub(crate) fn planned(alloc: Global, text: &str, options: Options) -> Result<Run
     if !are_options(&options) {
         return Err(Fail::new("options out of range"));
     }
-    let model = model_of(alloc, text)?;
+    let model = model_of(alloc, &[text])?;
     let chooser: Box<dyn Chooser + Send> = Box::new(alloc, Uniform)?;
     let run = plan(alloc, model, options, chooser)?;
     Ok(run)
