@@ -17,3 +17,4 @@ pub mod Keeping
 pub mod Known
 pub mod Steps
 pub mod Diagramming
+pub mod BundleLemmas

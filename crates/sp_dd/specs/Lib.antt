@@ -11,5 +11,6 @@ pub mod Chained
 pub mod Flat
 pub mod Hashes
 pub mod Kept
+pub mod Bundles
 pub mod Sources
 pub mod Diagrams

@@ -1,17 +1,22 @@
 //! A function of points as a reduced ordered decision diagram.
-ghost use Rattle.std.specs.Prelude.{◌≡◌, ◌≢◌, ℕ, ◌<◌, ◌↔◌, IsTrue, length, slice_index, IfOk};
+ghost use Rattle.std.specs.Prelude.{◌≡◌, ◌≢◌, ℕ, ◌<◌, ◌≤◌, ◌↔◌, IsTrue, length, drop, slice_index, IfOk};
 ghost use Rattle.std.specs.Bool.{OnTrue, OnFalse};
 ghost use Rattle.sp_dd.specs.Func.{IsScope, IsFunc, IsPointOf, DependsOn, IsIndependentOf, value_of, function_of};
 ghost use Rattle.sp_dd.specs.Ordered.{at, node_at, IsOrdered, IsBefore};
+ghost use Rattle.sp_dd.specs.NodeLists.{made_node};
+ghost use Rattle.sp_dd.specs.Walks.{IsFromSlot};
 ghost use Rattle.sp_dd.specs.Diagrams.{node_list, root_part, IsReduced, HasSlot};
 
 use crate::NoMemory;
+use crate::bundle::{BundleSource, walk_bundle};
+use crate::bundle_memo::BundleMemo;
 use crate::draft::Draft;
 use crate::memo::{Memo, State};
 use crate::nodes::Nodes;
 use crate::part::Part;
+use crate::shared::Shared;
 use crate::slots::Scope;
-use crate::walk::{Source, walk};
+use crate::walk::{Source, Step, walk_branch};
 use std::alloc::Global;
 use std::marker::Model;
 
@@ -21,7 +26,7 @@ use std::marker::Model;
 #[derive(Drop)]
 pub struct Diagram {
     scope: Scope,
-    nodes: Nodes,
+    nodes: Shared,
     root: Part,
 }
 
@@ -49,14 +54,60 @@ impl Diagram {
         ensures { IfOk result (λ h. h ≡ function_of scope.now (λ p. S.meaning source.now state (at p))) }
     {
         let _ = scope.slots();
-        let room = source.room();
-        let mut memo = Memo::new(alloc, room)?;
-        let mut draft = Draft::new(alloc, room)?;
+        match source.step(state) {
+            Step::Leaf(value) => {
+                let nodes = Shared::new(alloc, Nodes::new(alloc))?;
+                Ok(Diagram {
+                    scope: *scope,
+                    nodes,
+                    root: Part::Leaf(value),
+                })
+            }
+            Step::Branch(slot) => {
+                let room = source.room();
+                let mut memo = Memo::new(alloc, room)?;
+                let mut draft = Draft::new(alloc, room)?;
+                let mut stack = Vec::new(alloc);
+                let root = walk_branch(
+                    scope, source, &mut memo, &mut draft, &mut stack, state, slot,
+                )?;
+                let nodes = Shared::new(alloc, draft.finish())?;
+                Ok(Diagram {
+                    scope: *scope,
+                    nodes,
+                    root,
+                })
+            }
+        }
+    }
+
+    /// The diagram of the function that a bundle at the end of a list means.
+    pub fn from_bundle<S: BundleSource>(
+        alloc: Global,
+        scope: &Scope,
+        source: &S,
+        list: &mut Vec<Part>,
+        start: usize,
+        slot: u64,
+    ) -> Result<Diagram, NoMemory>
+        requires start { start ≤ length list.old.items }
+        requires bundle { S.IsBundle source.now (made_node slot (drop start list.old.items)) }
+        requires sizes { S.sizes source.now ≡ scope.now.sizes }
+        requires within { slot < length scope.now.sizes }
+        requires later { IsFromSlot slot (S.meaning source.now (made_node slot (drop start list.old.items))) }
+        ensures { IfOk result (λ h. h ≡ function_of scope.now (λ p. S.meaning source.now (made_node slot (drop start list.old.items)) (at p))) }
+    {
+        let _ = scope.slots();
+        let mut memo = BundleMemo::new(alloc)?;
+        let mut draft = Draft::new(alloc, 0)?;
         let mut stack = Vec::new(alloc);
-        let root = walk(scope, source, &mut memo, &mut draft, &mut stack, state)?;
+        let root = walk_bundle(
+            scope, source, &mut memo, &mut draft, &mut stack, list, start, slot,
+        )?;
+        let nodes = Shared::new(alloc, draft.finish())?;
         Ok(Diagram {
             scope: *scope,
-            nodes: draft.finish(),
+            nodes,
             root,
         })
     }
@@ -74,7 +125,7 @@ impl Diagram {
     pub fn nodes(&self) -> &Nodes
         ensures { result.now ≡ node_list self.now }
     {
-        &self.nodes
+        self.nodes.nodes()
     }
 
     /// The root: a leaf, or the place of a node.
@@ -84,11 +135,11 @@ impl Diagram {
         self.root
     }
 
-    /// The same function once more.
-    pub fn copied(&self, alloc: Global) -> Result<Diagram, NoMemory>
+    /// The same function once more. The list of nodes is shared: a copy takes neither memory nor time.
+    pub fn copied(&self, _alloc: Global) -> Result<Diagram, NoMemory>
         ensures { IfOk result (λ h. h ≡ self.now) }
     {
-        let nodes = self.nodes.copied(alloc)?;
+        let nodes = self.nodes.again()?;
         Ok(Diagram {
             scope: self.scope,
             nodes,
@@ -116,7 +167,12 @@ impl Diagram {
         requires { self.now.shape ≡ other.now.shape }
         ensures { IsTrue result ↔ (self.now ≡ other.now) }
     {
-        same_lists(self.root, &self.nodes, other.root, &other.nodes)
+        same_lists(
+            self.root,
+            self.nodes.nodes(),
+            other.root,
+            other.nodes.nodes(),
+        )
     }
 
     /// Whether the function differs at two points that differ in that slot alone. Takes no memory.
@@ -125,7 +181,7 @@ impl Diagram {
         ensures yes { OnTrue result (DependsOn self.now slot) }
         ensures no { OnFalse result (IsIndependentOf self.now slot) }
     {
-        has_slot(&self.nodes, slot)
+        has_slot(self.nodes.nodes(), slot)
     }
 }
 

@@ -43,6 +43,7 @@ impl Draft {
     }
 
     /// The part with that slot and these parts: the only part where all are one, else their node, which is added where it is new.
+    #[inline(always)]
     pub fn join(&mut self, slot: u64, parts: &[Part]) -> Result<Part, NoMemory>
         ensures { IfOk result (λ a. joined slot (self.old, parts.now) ≡ (self.new, a)) }
     {
@@ -72,6 +73,7 @@ impl Draft {
 }
 
 /// The place of the node with that slot and these parts.
+#[inline(always)]
 fn find(nodes: &Nodes, hashes: &Chains, hash: u64, slot: u64, parts: &[Part]) -> Option<usize>
     requires hashes { hashes.now ≡ map node_hash nodes.now }
     requires hash { hash ≡ node_hash (made_node slot parts.now) }
@@ -89,6 +91,7 @@ fn find(nodes: &Nodes, hashes: &Chains, hash: u64, slot: u64, parts: &[Part]) ->
 }
 
 /// The first part.
+#[inline(always)]
 fn first_of(parts: &[Part]) -> Part
     ensures { result ≡ first_part parts.now }
 {
@@ -99,6 +102,7 @@ fn first_of(parts: &[Part]) -> Part
 }
 
 /// Whether all parts are that one.
+#[inline(always)]
 fn are_all(first: Part, parts: &[Part]) -> bool
     ensures { result ≡ all_are first parts.now }
 {
@@ -113,6 +117,7 @@ fn are_all(first: Part, parts: &[Part]) -> bool
 const SPREAD: u64 = 0x9e37_79b9_7f4a_7c15;
 
 /// A hash with one more word.
+#[inline(always)]
 pub fn mix(hash: u64, word: u64) -> u64
     ensures { result ≡ mixed hash word }
 {
@@ -120,6 +125,7 @@ pub fn mix(hash: u64, word: u64) -> u64
 }
 
 /// A hash with one more part.
+#[inline(always)]
 pub fn mix_part(hash: u64, part: &Part) -> u64
     ensures { result ≡ part_hash hash part.now }
 {
@@ -132,12 +138,14 @@ pub fn mix_part(hash: u64, part: &Part) -> u64
     }
 }
 
+#[inline(always)]
 fn low_word(bits: u128) -> u64
     ensures { result ≡ bits % 18446744073709551616 }
 {
     (bits % 18446744073709551616) as u64
 }
 
+#[inline(always)]
 fn high_word(bits: u128) -> u64
     ensures { result ≡ bits / 18446744073709551616 % 18446744073709551616 }
 {
@@ -145,7 +153,8 @@ fn high_word(bits: u128) -> u64
 }
 
 /// The hash of a node.
-fn hash_of(slot: u64, parts: &[Part]) -> u64
+#[inline(always)]
+pub fn hash_of(slot: u64, parts: &[Part]) -> u64
     ensures { result ≡ node_hash (made_node slot parts.now) }
 {
     let mut hash = slot;

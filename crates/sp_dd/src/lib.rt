@@ -5,6 +5,8 @@
 //! `specs/Func.antt` says what a function of points is, and `specs/Operations.antt` what each operation answers.
 #![tactic(auto)]
 
+mod bundle;
+mod bundle_memo;
 mod chains;
 mod diagram;
 mod draft;
@@ -13,9 +15,11 @@ mod lists;
 mod memo;
 mod nodes;
 mod part;
+mod shared;
 mod slots;
 mod walk;
 
+pub use bundle::{Bundle, BundleSource};
 pub use diagram::{Diagram, one_list_law, reduced_law};
 pub use laws::{floor_law, least_law, monotone_law, most_law};
 pub use lists::{Ids, Pairs};

@@ -42,6 +42,7 @@ pub struct State {
 
 impl State {
     /// Whether two states are one.
+    #[inline(always)]
     pub fn is_same(&self, other: &State) -> bool
         ensures { IsTrue result ↔ self.now ≡ other.now }
     {
@@ -51,6 +52,7 @@ impl State {
     }
 
     /// A hash of the state.
+    #[inline(always)]
     pub fn hash(&self) -> u64 {
         let first = match self.choice {
             Choice::Open => 1,
@@ -105,6 +107,7 @@ impl Memo {
     }
 
     /// What is remembered of a state.
+    #[inline(always)]
     pub fn find(&self, state: &State, hash: u64) -> Option<Part>
         ensures { IfSome result (λ a. HasEntry self.now state.now a) }
     {
@@ -123,6 +126,7 @@ impl Memo {
     }
 
     /// Remembers a state's part.
+    #[inline(always)]
     pub fn keep(&mut self, state: State, hash: u64, part: Part) -> Result<(), NoMemory>
         ensures ok { OnOk result (self.new ≡ self.old ++ made_entry state part ∷ []) }
         ensures err { OnErr result (self.new ≡ self.old) }
@@ -142,6 +146,7 @@ impl Memo {
         Ok(())
     }
 
+    #[inline(never)]
     fn widen(&mut self) -> Result<(), NoMemory>
         ensures { self.new ≡ self.old }
     {

@@ -47,6 +47,7 @@ impl Nodes {
     }
 
     /// How many nodes there are.
+    #[inline(always)]
     pub fn len(&self) -> usize
         ensures { result ≡ length self.now }
     {
@@ -54,6 +55,7 @@ impl Nodes {
     }
 
     /// A node's slot.
+    #[inline(always)]
     pub fn slot(&self, at: usize) -> u64
         requires { at < length self.now }
         ensures { result ≡ (node_at self.now at).slot }
@@ -62,6 +64,7 @@ impl Nodes {
     }
 
     /// What a value of a node's slot leads to.
+    #[inline(always)]
     pub fn part(&self, at: usize, value: u64) -> Part
         requires node { at < length self.now }
         requires value { value < length (node_at self.now at).parts }
@@ -72,6 +75,7 @@ impl Nodes {
     }
 
     /// A node's parts.
+    #[inline(always)]
     pub fn parts(&self, at: usize) -> &[Part]
         requires { at < length self.now }
         ensures { result.now ≡ (node_at self.now at).parts }
@@ -115,6 +119,7 @@ impl Nodes {
     }
 
     /// Whether the node at a place has that slot and these parts.
+    #[inline(always)]
     pub fn is_at(&self, at: usize, slot: u64, parts: &[Part]) -> bool
         requires { at < length self.now }
         ensures { IsTrue result ↔ node_at self.now at ≡ made_node slot parts.now }
@@ -139,6 +144,7 @@ impl Nodes {
 }
 
 /// Whether two lists of parts are one.
+#[inline(always)]
 pub fn same_parts(left: &[Part], right: &[Part]) -> bool
     ensures { IsTrue result ↔ left.now ≡ right.now }
 {

@@ -53,34 +53,9 @@ pub trait Source {
         ensures value { (π : ℕ → ℕ) → π at ≡ value → meaning self.now state π ≡ meaning self.now result π };
 }
 
-/// Adds the nodes of a state's function to a draft. `stack` is room for the parts of nodes in the making.
-pub fn walk<S: Source>(
-    scope: &Scope,
-    source: &S,
-    memo: &mut Memo,
-    draft: &mut Draft,
-    stack: &mut Vec<Part>,
-    state: State,
-) -> Result<Part, NoMemory>
-    requires state { S.IsState source.now state }
-    requires sizes { S.sizes source.now ≡ scope.now.sizes }
-    requires positive { ArePositive scope.now.sizes }
-    requires known { AreKnown scope.now.sizes (S.meaning source.now) memo.old draft.old }
-    ensures made { IfOk result (λ a. whole scope.now.sizes (S.meaning source.now state) draft.old ≡ (draft.new, a)) }
-    ensures known { OnOk result (AreKnown scope.now.sizes (S.meaning source.now) memo.new draft.new) }
-    ensures stack { OnOk result (stack.new.items ≡ stack.old.items) }
-{
-    match source.step(state) {
-        Step::Leaf(value) => Ok(Part::Leaf(value)),
-        Step::Branch(slot) => {
-            let part = walk_branch(scope, source, memo, draft, stack, state, slot)?;
-            Ok(part)
-        }
-    }
-}
-
-/// The same for a state that branches on that slot.
-fn walk_branch<S: Source>(
+/// Adds the nodes of the function of a state that branches on a slot to a draft. `stack` is room for the parts of nodes in the
+/// making.
+pub fn walk_branch<S: Source>(
     scope: &Scope,
     source: &S,
     memo: &mut Memo,
@@ -121,14 +96,16 @@ fn walk_branch<S: Source>(
     Ok(part)
 }
 
-fn push_part(stack: &mut Vec<Part>, part: Part) -> Result<(), NoMemory>
+#[inline(always)]
+pub fn push_part(stack: &mut Vec<Part>, part: Part) -> Result<(), NoMemory>
     ensures { OnOk result (stack.new.items ≡ stack.old.items ++ part ∷ []) }
 {
     stack.push(part).map_err(|_| NoMemory)?;
     Ok(())
 }
 
-fn join_rest(
+#[inline(always)]
+pub fn join_rest(
     draft: &mut Draft,
     slot: u64,
     stack: &Vec<Part>,

@@ -6,7 +6,7 @@ ghost use Rattle.sp_dd.specs.Ordered.{IsBefore, node_at};
 ghost use Rattle.sp_ddops.specs.Pairs.{IsPair, least_slot, state_cofactor};
 ghost use Rattle.sp_ddops.specs.StateSums.{widths_of, sum_over, pair_value, spread, IsLight, AreSums};
 
-use crate::cofactor::{cofactor, leaf_in, slot_in};
+use crate::cofactor::{cofactor, has_zero, leaf_in, slot_in};
 use sp_dd::{Choice, Diagram, Memo, NoMemory, Nodes, Part, Scope, State};
 use std::alloc::Global;
 
@@ -51,6 +51,9 @@ fn sum_from(
     ensures sum { IfOk result (λ z. z ≡ sum_over (widths_of scope.now) from (pair_value left.now right.now state)) }
     ensures known { OnOk result (AreSums scope.now left.now right.now memo.new) }
 {
+    if has_zero(state.left, state.right) {
+        return Ok(0);
+    }
     let slot = first_slot(scope, left, right, &state);
     if slot == scope.slots() {
         let product = leaf_in(state.left) * leaf_in(state.right);
@@ -72,6 +75,7 @@ fn sum_from(
 }
 
 /// The slot on which a pair of parts branches first, or the number of slots.
+#[inline(always)]
 fn first_slot(scope: &Scope, left: &Nodes, right: &Nodes, state: &State) -> u64
     requires left { IsBefore (length left.now) state.now.left }
     requires right { IsBefore (length right.now) state.now.right }
@@ -82,6 +86,7 @@ fn first_slot(scope: &Scope, left: &Nodes, right: &Nodes, state: &State) -> u64
 }
 
 /// Both parts where the pair's first slot has a value.
+#[inline(always)]
 fn next_pair(left: &Nodes, right: &Nodes, state: &State, slot: u64, value: u64) -> State
     requires left { IsBefore (length left.now) state.now.left }
     requires right { IsBefore (length right.now) state.now.right }
@@ -114,6 +119,7 @@ fn times_skipped(scope: &Scope, sum: i128, from: u64, to: u64) -> i128
 }
 
 /// How many values states give to a slot: one where it isn't an unprimed state slot.
+#[inline(always)]
 fn state_width(scope: &Scope, slot: u64) -> u64
     requires scope { IsScope scope.now }
     requires slot { slot < length scope.now.sizes }
