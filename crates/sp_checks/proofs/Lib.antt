@@ -14,3 +14,16 @@ pub mod ModelLemmas
 pub mod WordLemmas
 pub mod StartLemmas
 pub mod ReadingLemmas
+mod PlaceLemmas
+mod AmongLemmas
+mod PlaceNames
+mod RowPlaceLemmas
+mod RoleRowLemmas
+mod TableRowLemmas
+mod InitRowLemmas
+mod ItemRowLemmas
+mod ActionRowLemmas
+mod FrameLemmas
+mod EndLemmas
+mod TextLemmas
+pub mod OneRowLemmas

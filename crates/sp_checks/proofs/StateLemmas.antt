@@ -58,7 +58,7 @@ sights_from at (None ∷ ts) done fs h = cc
 sights_from at (Some f ∷ ts) done fs h =
     sights_from at ts (done ++ f ∷ []) fs h ∙ ap (λ xs. xs ++ ts) (map-append Some done (f ∷ [])) ∙ append_assoc (map Some done) (Some f ∷ []) ts
 
-sights_are : (at : ℕ) (ts : List (Option Func)) (fs : List Func) → sights_of at ts ≡ Ok fs → map Some fs ≡ ts
+pub sights_are : (at : ℕ) (ts : List (Option Func)) (fs : List Func) → sights_of at ts ≡ Ok fs → map Some fs ≡ ts
 unfolding sights_of
 sights_are at ts fs h = sights_from at ts [] fs h
 

@@ -7,3 +7,6 @@ pub mod Sections
 pub mod Finish
 pub mod Source
 pub mod Meaning
+pub mod Told
+pub mod TextRows
+pub mod Answers

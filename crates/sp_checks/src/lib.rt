@@ -1,8 +1,9 @@
 //! From the parsed text of a model file to its model, or to the refusal that comes first.
 //!
-//! `specs/Meaning.antt` says what a text means. Declarations are judged in turn, then the sections, each item by item, then what
-//! is missing at the end; the first of these that is refused decides. Inside one tree the refusal of the least place does, and
-//! there the kind that stands first in `sp_trees`'s list. Items stand in the order of their places, which no law says.
+//! `specs/TextRows.antt` is the table of refusals: each row by itself, apart from the reading. `specs/Told.antt` says which model a
+//! text tells. `model_of` answers the row with the least place, and at one place the one whose kind stands first in `sp_trees`'s
+//! list, or the model where no row holds. The code judges the declarations in turn, then the sections, each item by item, then
+//! what is missing at the end, and stops at the first that is refused: that is the least, since places rise through a text.
 #![tactic(auto)]
 
 mod accepted;
@@ -10,11 +11,13 @@ mod actions;
 mod finish;
 mod initial;
 mod items;
+mod laws;
 mod reading;
 mod roles;
 mod sections;
 mod state;
 
+pub use laws::one_refusal;
 pub use reading::model_of;
 pub use sp_declarations::ModelError;
 pub use sp_trees::ModelKind;

@@ -10,6 +10,7 @@ ghost use Rattle.sp_checks.specs.Sections as spec;
 ghost use Rattle.sp_declarations.specs.Steps.{Gives, Leaves, in_turn};
 ghost use Rattle.sp_checks.specs.Source.{HasName, HasWords, IsTextOf};
 ghost use Rattle.sp_checks.specs.Meaning.{meaning};
+ghost use Rattle.sp_checks.specs.Answers.{Answers};
 
 use crate::finish::finish;
 use crate::sections::section;
@@ -125,7 +126,7 @@ fn parts_of(alloc: Global, source: &[u8], text: &Text) -> Result<Parts, ModelErr
 /// The model of a text, or the refusal that comes first.
 pub fn model_of(alloc: Global, source: &[u8], text: &Text) -> Result<Model, ModelError>
     requires { IsTextOf source.now text.now }
-    ensures { Gives (meaning source.now text.now) result }
+    ensures { Answers source.now text.now result }
 {
     tokens_by_place(source);
     let parts = parts_of(alloc, source, text)?;

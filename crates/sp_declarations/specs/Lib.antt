@@ -1,3 +1,5 @@
 pub mod Steps
 pub mod Declarations
 pub mod Kept
+pub mod Rows
+pub mod Told

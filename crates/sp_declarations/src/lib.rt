@@ -5,6 +5,8 @@
 
 mod declarations;
 mod error;
+mod laws;
 
 pub use declarations::{Declared, declarations_of};
 pub use error::{ModelError, refuse};
+pub use laws::{declarations_are_told, rows_are_refusals};

@@ -2,7 +2,7 @@
 use Rattle.std.proofs.Common.{◌≡◌, ℕ, List, [], ◌∷◌, ◌++◌, Option, Some, None, sym, ap, ◌∙◌, refl, append_assoc, ◌⊎◌, inl, inr}
 use Rattle.sp_syntax.specs.declared.class.Classed.{Classed}
 use Rattle.sp_syntax.specs.Fault.{Fault}
-use Rattle.sp_syntax.specs.Grammar.{InGrammar, IsViable}
+use Rattle.sp_syntax.specs.Grammar.{IsViable}
 use Rattle.sp_syntax.specs.declared.error.SyntaxKind.TheVariants as kind
 use Rattle.sp_syntax.specs.Refusal.{Refuses, StopsAt, IsUnsupported, room, room_then, leave, IsShallow}
 

@@ -13,3 +13,4 @@ pub mod Faults
 pub mod Answer
 pub mod Unique
 pub mod Exclusive
+pub mod SpanLemmas

@@ -4,3 +4,4 @@ pub mod Fault
 pub mod Grammar
 pub mod Reading
 pub mod Refusal
+pub mod Spans

@@ -1,11 +1,14 @@
-ghost use Rattle.std.specs.Prelude.{◌≡◌, ℕ};
+ghost use Rattle.std.specs.Prelude.{◌≡◌, ℕ, List, Ok, length};
+ghost use Rattle.sp_lex.specs.declared.lexeme.Token.{Token};
+ghost use Rattle.sp_lex.specs.Tokens.{tokens_of};
 ghost use Rattle.sp_syntax.specs.declared.text.Text.{Text};
 ghost use Rattle.sp_syntax.specs.Classes.{classes};
 ghost use Rattle.sp_syntax.specs.Fault.{Fault};
 ghost use Rattle.sp_syntax.specs.Grammar.{InGrammar, IsText};
 ghost use Rattle.sp_syntax.specs.Refusal.{IsShallow, Refuses};
+ghost use Rattle.sp_syntax.specs.Spans.{AreRising, text_spans};
 
-use sp_lex::Tokens;
+use sp_lex::{Tokens, tokens_by_place};
 
 /// Some tokens are one text at most: the grammar gives them no second tree. It does nothing when it runs.
 pub fn text_is_unique(source: &[u8], tokens: &Tokens)
@@ -17,3 +20,12 @@ pub fn text_is_unique(source: &[u8], tokens: &Tokens)
 pub fn refused_is_no_text(source: &[u8], tokens: &Tokens)
     ensures { (end : ℕ) (fault : Fault) → Refuses end (classes source.now tokens.now) fault → InGrammar (classes source.now tokens.now) → IsShallow (classes source.now tokens.now) → ⊥ }
 {}
+
+/// Places rise through a text: its tree holds the span of each token once, in the text's order, none is empty, and each
+/// begins behind the one before and ends within the source. It does nothing when it runs.
+#[tactic(auto, using(crate::proofs::SpanLemmas::spans_rise))]
+pub fn spans_rise(source: &[u8])
+    ensures { (tokens : List Token) (text : Text) → tokens_of source.now ≡ Ok tokens → IsText text (classes source.now tokens) → AreRising 0 (text_spans text) (length source.now) }
+{
+    tokens_by_place(source);
+}

@@ -7,13 +7,11 @@ mod error;
 mod laws;
 mod reader;
 mod sequence;
-#[cfg(test)]
-mod tests;
 mod text;
 mod tree;
 
 pub use error::{SyntaxError, SyntaxKind};
-pub use laws::{refused_is_no_text, text_is_unique};
+pub use laws::{refused_is_no_text, spans_rise, text_is_unique};
 pub use reader::parse;
 pub use sequence::Sequence;
 pub use text::{

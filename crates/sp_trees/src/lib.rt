@@ -14,13 +14,11 @@ mod nodes;
 mod refusal;
 mod single;
 mod slots;
-#[cfg(test)]
-mod tests;
 mod words;
 
 pub use env::{Dd, Dds, Env, Shared};
 pub use judged::Judged;
-pub use laws::values_are_the_trees;
+pub use laws::{rows_are_refusals, trees_are_told, values_are_the_trees};
 pub use meaning::judge;
 pub use nodes::{Place, place_of};
 pub use refusal::{ModelKind, Refusal, lesser, refused_if};

@@ -1,4 +1,4 @@
-use Rattle.std.proofs.Common.{◌∙◌, ap, ◌++◌}
+use Rattle.std.proofs.Common.{◌∙◌, ap}
 use Rattle.sp_trees.specs.Words.{text}
 use Rattle.sp_reader.proofs.Joined.{four}
 use Rattle.sp_reader.proofs.kinds.named_row.Goals as goal

@@ -1,4 +1,4 @@
-use Rattle.std.proofs.Common.{◌∙◌, ap, ◌++◌, codes, string_bytes}
+use Rattle.std.proofs.Common.{◌∙◌, ap, ◌++◌, codes}
 use Rattle.std.proofs.lemmas.Int.{to_z-of_z}
 use mir.Syntax.{w128}
 use Rattle.std.specs.Fmt.{decimal}

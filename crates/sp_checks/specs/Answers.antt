@@ -1,0 +1,22 @@
+-- What is answered for a text: by the table of refusals alone.
+use Rattle.std.specs.Prelude.{◌≡◌, ⊤, ℕ, List, Some, Result, Ok, Err}
+use Rattle.sp_syntax.specs.declared.text.Text.{Text}
+use Rattle.sp_model.specs.declared.parts.Parts.{Parts}
+use Rattle.sp_model.specs.Kept.{IsModel}
+use Rattle.sp_trees.specs.declared.refusal.Refusal.{Refusal}
+use Rattle.sp_trees.specs.Rows.{IsLeastOf}
+use Rattle.sp_declarations.specs.declared.error.ModelError.{ModelError}
+use Rattle.sp_declarations.specs.declared.error.ModelError.TheVariants as error
+use Rattle.sp_checks.specs.Source.{IsTextOf}
+use Rattle.sp_checks.specs.Told.{parts_in}
+use Rattle.sp_checks.specs.TextRows.{Breaks}
+
+-- Where no row of the table holds, the model that the text tells, which is lawful. Where one holds, the row with the least place, and at one place the one that comes first.
+abbrev pub Answers : List ℕ → Text → Result Parts ModelError → Type 0
+Answers source t (Ok p) = ((r : Refusal) → ¬ Breaks source t r) × (p ≡ parts_in source t) × IsModel p
+Answers source t (Err (error.Fault at kind)) = IsLeastOf (Breaks source t) (Some (record { at = at; kind = kind }))
+Answers source t (Err error.NoMemory) = ⊤
+
+-- the row that comes first is one
+abbrev pub OneRefusal : Type 0
+OneRefusal = (source : List ℕ) (t : Text) (first second : Refusal) → IsTextOf source t → IsLeastOf (Breaks source t) (Some first) → IsLeastOf (Breaks source t) (Some second) → first ≡ second
