@@ -29,7 +29,7 @@ pair_left m test edition p (differ, under) = (
       (λ k d less e. All-filter test (λ y. y.id ≡ p.1 → IsUnder m (get_or edition k d) y) edition (under k d less e)),
 )
 
-nowhere_above_at : (m : Model) (x y : Member) → nowhere_above m x y ≡ true → (s : State) → IsPoint m.sizes s → x.vector s ≤ℤ y.vector s
+pub nowhere_above_at : (m : Model) (x y : Member) → nowhere_above m x y ≡ true → (s : State) → IsPoint m.sizes s → x.vector s ≤ℤ y.vector s
 unfolding nowhere_above
 nowhere_above_at m x y e s at = let low = not-true (int_lt (y.vector s) (x.vector s)) (holds_over_at m.sizes _ e s at) in omega (arith, ints, low)
 

@@ -20,6 +20,7 @@ pub mod Histories
 pub mod Prompt
 pub mod Publications
 pub mod Dominated
+pub mod Domination
 pub mod OneThread
 pub mod Props
 pub mod Scales

@@ -20,3 +20,4 @@ pub mod Logs
 pub mod SessionLaws
 pub mod BooksAgreement
 pub mod ExampleModels
+pub mod Domination

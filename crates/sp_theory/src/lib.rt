@@ -12,6 +12,7 @@ mod sessions;
 
 ghost use Rattle.std.specs.Prelude.{ℕ};
 ghost use Rattle.sp_theory.specs.BooksAgreement.{EditionsAreAlike, BooksGoOnAlike};
+ghost use Rattle.sp_theory.specs.Domination.{DominatedAreThose};
 ghost use Rattle.sp_theory.specs.Laws.{RangeIsExact, RangeIsBounded, LegalRunsEndOnce, WeighingIsClose, WeighingsAreClose, StepIsClose, StepIsInRange, EstimateIsClose, BackupIsClose, ReturnsAreFromLeast, VectorsAreLowerBounds, PruningKeepsValues, RunsAreSound, RecordedBackupsAreClose, StagesArePublished, PublicationsFollowSettles, DominatedMayGo, SettleGoesOn, PruneGoesOn, OneThreadGoesOn, OneThreadIsPrompt, GreatestIsLeast, SettleImproves, EndFollowsPublication, OneThreadCompletes, OneThreadEnds};
 ghost use Rattle.sp_theory.specs.Values.{Member};
 
@@ -87,6 +88,12 @@ pub fn pruning_keeps_values()
 /// The dominated members of an edition may go.
 pub fn dominated_may_go()
     ensures { DominatedMayGo }
+{}
+
+/// The dominated members of an edition are those that are nowhere above another one (of two equal ones the later), in order, all
+/// of them, each with the least id of such another one.
+pub fn dominated_are_those()
+    ensures { DominatedAreThose }
 {}
 
 /// A run keeps its book sound: vectors are at most exact returns, sampled values never fall, no edition is empty or repeats a record.
