@@ -12,6 +12,14 @@ pub mod Thinning
 pub mod MembersById
 pub mod Decoded
 pub mod LinkSums
+pub mod UnscaledSums
+pub mod RangeLemmas
+pub mod BestLink
+pub mod Windows
 pub mod AllLinks
 pub mod Trials
+pub mod Promised
+pub mod RewardSums
 pub mod Assembled
+pub mod KeptLemmas
+pub mod PosteriorLists

@@ -2,5 +2,9 @@ pub mod Functions
 pub mod Linking
 pub mod Stepping
 pub mod Choosing
-pub mod Trials
 pub mod Members
+pub mod Ranges
+pub mod Posteriors
+pub mod Projections
+pub mod Trials
+pub mod Promises

@@ -7,10 +7,16 @@
 mod assembling;
 mod backups;
 mod choosing;
+mod estimates;
+mod linking;
 mod models;
 mod moving;
+mod posteriors;
 mod projections;
+mod promises;
+mod pulling;
 mod seeing;
+mod setting;
 mod stepping;
 
 pub use assembling::assemble;

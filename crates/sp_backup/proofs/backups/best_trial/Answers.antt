@@ -1,26 +1,20 @@
-use Rattle.std.proofs.Common.{◌≡◌, rules, arith, refl, ap, ◌∙◌, length, true, false, to_z, of_z}
-use Rattle.std.specs.Int.{w128}
-use Rattle.std.specs.Prelude.{FitsSigned}
-use Rattle.std.proofs.lemmas.Int.{to_z-of_z}
-use Rattle.sp_model.specs.declared.parts.Parts.{Parts}
-use Rattle.sp_value.specs.Scores.{outdoes}
-use Rattle.sp_backup.proofs.Trials.{trial_first, trial_next, trial_last}
+use Rattle.std.proofs.Common.{ap, ◌∙◌, subst}
+use Rattle.std.specs.Prelude.{IfOk}
+use Rattle.sp_dd.specs.Func.{Func}
+use Rattle.sp_theory.specs.Backup.{choice}
+use Rattle.sp_model.specs.Problem.{problem, shape_of}
+use Rattle.sp_model.specs.Links.{weights_of}
+use Rattle.sp_value.specs.Tasks.{TaskParts, sampled_func}
+use Rattle.sp_value.specs.Editions.{EditionParts, members_in}
+use Rattle.sp_backup.specs.Trials.{IsTrial}
 use Rattle.sp_backup.proofs.backups.best_trial.Goals as goal
-use Rattle.sp_backup.proofs.backups.best_trial.Goals.{then-is_better, else-is_better}
 
-pub loop-action-init : goal.loop-action-init
-loop-action-init c = trial_first _ _ _ c.members.ensures.known.task.model.some_action c.in_ok-best.ensures
-
-pub loop-action-preserved : goal.loop-action-preserved
-loop-action-preserved c =
-    let count = ap (λ (p : Parts). length p.actions) c.model_of.ensures.value in
-    let new : FitsSigned w128 c.in_ok-next.next.sum = search rules in
-    let old : FitsSigned w128 c.loop-action.best.sum = search rules in
-    let plain : outdoes (to_z w128 (of_z w128 c.in_ok-next.next.sum)) c.in_ok-next.next.action (to_z w128 (of_z w128 c.loop-action.best.sum)) c.loop-action.best.action ≡ outdoes c.in_ok-next.next.sum c.in_ok-next.next.action c.loop-action.best.sum c.loop-action.best.action = λ i. outdoes (to_z-of_z w128 _ new i) c.in_ok-next.next.action (to_z-of_z w128 _ old i) c.loop-action.best.action in
-    elim c.if-is_better.branch [
-      | then-is_better w ↦ trial_next _ _ c.loop-action.action _ _ _ _ true c.loop-action.invariant (omega (arith, count)) c.in_ok-next.ensures (w.if-is_better.ensures ∙ plain) refl w.best-is
-      | else-is_better w ↦ trial_next _ _ c.loop-action.action _ _ _ _ false c.loop-action.invariant (omega (arith, count)) c.in_ok-next.ensures (w.if-is_better.ensures ∙ plain) refl w.best-is
-    ]
+pub new-setting-requires : goal.new-setting-requires
+new-setting-requires c = c.weights.ensures.shape ∙ ap (λ (t : TaskParts). shape_of t.model) (c.deref.ensures ∙ c.task.ensures)
 
 pub returns : goal.returns
-returns c = let count = ap (λ (p : Parts). length p.actions) c.model_of.ensures.value in trial_last _ _ c.loop-action.action _ c.loop-action.invariant (omega (arith, count))
+returns c =
+    let found = c.trial_of-found.result in
+    let weights = c.new-setting.ensures.weights ∙ c.weights.ensures.value ∙ ap (λ (t : TaskParts). sampled_func t c.args.belief) (c.deref.ensures ∙ c.task.ensures) in
+    subst (λ (x : EditionParts). IfOk found (IsTrial x (weights_of x.task.model (sampled_func c.args.edition.now.task c.args.belief)) (choice (problem x.task.model) (members_in x) (weights_of x.task.model (sampled_func c.args.edition.now.task c.args.belief))))) c.new-setting.ensures.edition
+    (subst (λ (u : Func). IfOk found (IsTrial c.new-setting.result.edition.now (weights_of c.new-setting.result.edition.now.task.model u) (choice (problem c.new-setting.result.edition.now.task.model) (members_in c.new-setting.result.edition.now) (weights_of c.new-setting.result.edition.now.task.model u)))) weights c.trial_of-found.ensures.trial)

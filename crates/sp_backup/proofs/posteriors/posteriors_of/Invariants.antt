@@ -1,0 +1,5 @@
+use Rattle.sp_backup.specs.Posteriors.{ArePosteriors}
+use Rattle.sp_backup.proofs.posteriors.posteriors_of.Given as goal
+
+abbrev pub invariant-loop-joint : goal.invariant-loop-joint
+invariant-loop-joint l = ArePosteriors l.model l.weights l.action l.joint l.made
