@@ -109,31 +109,3 @@ impl Chooser for Listed {
         answer
     }
 }
-
-#[cfg(test)]
-mod tests {
-    use super::*;
-    use std::process::Abort;
-    use std::test::Fail;
-
-    // asks for one of three actions, each time with the word 7
-    fn assert_answers(rt: &impl Abort, chooser: Box<dyn Chooser + Send>, wanted: &[u64]) {
-        let mut chooser = chooser;
-        for answer in wanted {
-            assert_eq!(rt; chooser.choose(0, 3, 7), *answer);
-        }
-    }
-
-    #[test]
-    fn choosers_answer_in_turn(rt: HostRuntime) -> Result<(), Fail> {
-        let alloc = rt.alloc();
-        assert_answers(&rt, Box::new(alloc, Uniform)?, &[1, 1]);
-        assert_answers(&rt, Box::new(alloc, Sweep::new())?, &[0, 1, 2, 0]);
-        let mut list = Ids::new(alloc);
-        assert_answers(&rt, Box::new(alloc, Listed::new(Ids::new(alloc)))?, &[0, 0]);
-        list.push(5)?;
-        list.push(1)?;
-        assert_answers(&rt, Box::new(alloc, Listed::new(list))?, &[2, 1, 2]);
-        Ok(())
-    }
-}

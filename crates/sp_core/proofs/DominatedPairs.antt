@@ -13,7 +13,7 @@ use Rattle.sp_theory.proofs.Dominated.{IsPair, tell_apart, dominated_pairs}
 use Rattle.sp_model.specs.Problem.{problem}
 use Rattle.sp_value.specs.Editions.{members_in}
 use Rattle.sp_value.proofs.Links.{Differ-edition_of}
-use Rattle.sp_core.specs.Drops.{IsDominatedPair, AreDominatedPairs}
+use Rattle.sp_core.specs.Dominated.{IsDominatedPair, AreDominatedPairs}
 use Rattle.sp_core.specs.Laws.{DominatedMayBePruned}
 
 module _ (m : Model) (edition : Edition) where

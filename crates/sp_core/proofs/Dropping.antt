@@ -20,7 +20,7 @@ use Rattle.sp_theory.proofs.OneThread.{prune_goes}
 use Rattle.sp_theory.proofs.Sound.{latest_members}
 use Rattle.sp_core.specs.Accounts.{Account, last_of}
 use Rattle.sp_core.specs.Running.{IsRunning}
-use Rattle.sp_core.specs.Drops.{IsDominatedPair, AreDominatedPairs}
+use Rattle.sp_core.specs.Dominated.{IsDominatedPair, AreDominatedPairs}
 use Rattle.sp_core.proofs.Accounting.{account_pruned}
 use Rattle.sp_core.proofs.Running.{goes_on, kept_book}
 

@@ -21,7 +21,8 @@ use Rattle.sp_core.specs.declared.answers.Pruned.TheVariants.{Dropped, Nothing, 
 use Rattle.sp_core.specs.Accounts.{Account, last_of}
 use Rattle.sp_core.specs.Running.{IsRunning}
 use Rattle.sp_core.specs.Books.{BookParts, state_of}
-use Rattle.sp_core.specs.Drops.{AreDominatedPairs, applying_ids, goes, left_by}
+use Rattle.sp_drops.specs.Drops.{applying_ids, goes, left_by}
+use Rattle.sp_core.specs.Dominated.{AreDominatedPairs}
 use Rattle.sp_core.specs.Ledgers.{Contents, parts_in, account_in, IsLedger}
 use Rattle.sp_core.specs.Settling.{IsOurs}
 use Rattle.sp_core.specs.Pruning.{AreDominatedIn, IsPruneOf, IsPruned, latest_in, left_in, pruned_in}

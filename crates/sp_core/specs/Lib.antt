@@ -1,7 +1,7 @@
 pub mod Accounts
 pub mod Running
 pub mod Marks
-pub mod Drops
+pub mod Dominated
 pub mod Choices
 pub mod Books
 pub mod Ledgers

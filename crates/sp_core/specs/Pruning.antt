@@ -11,7 +11,8 @@ use Rattle.sp_core.specs.declared.answers.PruneError.{PruneError}
 use Rattle.sp_core.specs.declared.answers.PruneError.TheVariants.{NotOurs, NoMemory}
 use Rattle.sp_core.specs.Books.{BookParts, state_of}
 use Rattle.sp_core.specs.Settling.{IsOurs}
-use Rattle.sp_core.specs.Drops.{AreDominatedPairs, left_by}
+use Rattle.sp_drops.specs.Drops.{left_by}
+use Rattle.sp_core.specs.Dominated.{AreDominatedPairs}
 use Rattle.sp_core.specs.Ledgers.{Contents}
 
 -- each pair names two different members of the edition, the first nowhere above the second

@@ -7,7 +7,6 @@
 
 mod answers;
 mod book;
-mod drops;
 mod flags;
 mod laws;
 mod ledger;

@@ -118,19 +118,3 @@ fn push_set(text: &mut String, number: u64) -> Result<(), AllocError>
         "action set{number}\nx{number} (x{number}' (off (0.0)) (on (1.0)))\nobserve hint (blind) endobserve\ncost (0.5)\nendaction\n"
     )
 }
-
-#[cfg(test)]
-mod tests {
-    use super::*;
-    use std::test::Fail;
-
-    // The lengths were counted by another program that writes the same texts.
-    #[test]
-    fn texts_are_whole(rt: HostRuntime) -> Result<(), Fail> {
-        let rows = [(0, 1309), (2, 1448), (16, 2442)];
-        for (number, length) in &rows {
-            assert_eq!(rt; generated(rt.alloc(), *number)?.len(), *length);
-        }
-        Ok(())
-    }
-}

@@ -7,8 +7,6 @@ mod decimal;
 mod laws;
 mod lexeme;
 mod lexer;
-#[cfg(test)]
-mod tests;
 
 pub use decimal::{NumError, ticks};
 pub use laws::{decimal_by_spelling, tokens_by_place};

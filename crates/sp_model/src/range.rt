@@ -49,29 +49,3 @@ pub(crate) fn worth_above(reward: i128, discount: u64) -> i128
 {
     -(-(TICKS * reward)).div_euclid(TICKS - discount as i128)
 }
-
-#[cfg(test)]
-mod tests {
-    use super::*;
-    use std::test::Fail;
-
-    // Worked out by hand as reward / (1 - discount), in ticks, rounded outwards.
-    #[test]
-    fn worths_are_rounded_outwards(rt: HostRuntime) -> Result<(), Fail> {
-        assert_eq!(rt; worth_below(-1_000_000_000, 700_000_000), -3_333_333_334);
-        assert_eq!(rt; worth_above(-1_000_000_000, 700_000_000), -3_333_333_333);
-        assert_eq!(rt; worth_below(1_000_000_000, 700_000_000), 3_333_333_333);
-        assert_eq!(rt; worth_above(1_000_000_000, 700_000_000), 3_333_333_334);
-        assert_eq!(rt;
-            worth_below(-1_000_000_000_000_000, 999_000_000),
-            -1_000_000_000_000_000_000
-        );
-        assert_eq!(rt;
-            worth_below(-100_000_000_000, 950_000_000),
-            -2_000_000_000_000
-        );
-        assert_eq!(rt; worth_above(10_000_000_000, 950_000_000), 200_000_000_000);
-        assert_eq!(rt; worth_below(1_000_000_000, 500_000_000), 2_000_000_000);
-        Ok(())
-    }
-}

@@ -22,6 +22,3 @@ use thiserror::Error;
 #[derive(Clone, Copy, Debug, Drop, PartialEq, Eq, Error)]
 #[error("the outside failed")]
 pub struct Failed;
-
-#[cfg(test)]
-mod tests;

@@ -24,28 +24,3 @@ fn sign_of(ticks: i128) -> &'static str
 {
     if ticks < 0 { "-" } else { "" }
 }
-
-#[cfg(test)]
-mod tests {
-    use super::*;
-    use std::test::Fail;
-
-    // Written out by hand.
-    #[test]
-    fn ticks_are_decimals(rt: HostRuntime) -> Result<(), Fail> {
-        let rows = [
-            (0, "0.000000000"),
-            (1, "0.000000001"),
-            (-1, "-0.000000001"),
-            (850_000_000, "0.850000000"),
-            (1_010_000_000, "1.010000000"),
-            (-2_000_000_000_000, "-2000.000000000"),
-            (-3_333_333_334, "-3.333333334"),
-            (-1_000_000_000_000_000_000, "-1000000000.000000000"),
-        ];
-        for (ticks, text) in &rows {
-            assert_eq!(rt; decimal(rt.alloc(), *ticks)?.as_str(), *text);
-        }
-        Ok(())
-    }
-}

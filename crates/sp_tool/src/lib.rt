@@ -12,6 +12,3 @@ mod texts;
 pub use laws::one_plan;
 pub use run::run_plain;
 pub use status::Status;
-
-#[cfg(test)]
-mod tests;

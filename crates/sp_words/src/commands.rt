@@ -1,7 +1,7 @@
 //! The commands, as the parser of command lines reads them.
 
 ghost use Rattle.std.specs.Prelude.{◌≡◌, IfOk, IfErr, ◌⊎◌, map, string_bytes, false, []};
-ghost use Rattle.clap.specs.Words.{app_of, rule_of, fault_of, kind_of, subcommand_rows_of, subcommand_of};
+ghost use Rattle.clap.specs.Words.{app_of, rule_of, with_rule, fault_of, kind_of, subcommand_rows_of, subcommand_of};
 ghost use Rattle.clap.specs.declared.builder.Command.TheViews.{out-Command};
 ghost use Rattle.sp_words.specs.Apps.{place_rule, option_rule, place_app, numbers_app, plan_app, top_app, tool_app};
 ghost use Rattle.sp_words.specs.Jobs.{IsTaken};
@@ -34,17 +34,30 @@ fn place_command<'a>(alloc: Global, name: &'a str, id: &'a str) -> Result<Comman
     Command::new(alloc, name).arg(place(alloc, id))
 }
 
+/// The command with one more option that has to be there.
+fn with_option<'a>(
+    alloc: Global,
+    command: Command<'a>,
+    id: &'a str,
+) -> Result<Command<'a>, AllocError>
+    requires { (out-Command command).has_globals ≡ false }
+    ensures app { IfOk result (λ c. app_of c ≡ with_rule (app_of command.entry) (option_rule id.entry.now)) }
+    ensures local { IfOk result (λ c. (out-Command c).has_globals ≡ false) }
+{
+    command.arg(option(alloc, id))
+}
+
 /// The command `plan`, with what has to be there.
 fn numbers_command<'a>(alloc: Global) -> Result<Command<'a>, AllocError>
     ensures app { IfOk result (λ c. app_of c ≡ numbers_app) }
     ensures local { IfOk result (λ c. (out-Command c).has_globals ≡ false) }
 {
-    place_command(alloc, "plan", "model")?
-        .arg(option(alloc, "beliefs"))?
-        .arg(option(alloc, "depth"))?
-        .arg(option(alloc, "stages"))?
-        .arg(option(alloc, "seed"))?
-        .arg(option(alloc, "workers"))
+    let place = place_command(alloc, "plan", "model")?;
+    let with_beliefs = with_option(alloc, place, "beliefs")?;
+    let with_depth = with_option(alloc, with_beliefs, "depth")?;
+    let with_stages = with_option(alloc, with_depth, "stages")?;
+    let with_seed = with_option(alloc, with_stages, "seed")?;
+    with_option(alloc, with_seed, "workers")
 }
 
 /// The command `plan`.
@@ -75,14 +88,13 @@ fn tool_command<'a>(alloc: Global) -> Result<Command<'a>, AllocError>
     ensures { IfOk result (λ c. app_of c ≡ tool_app) }
 {
     let plan = plan_command(alloc)?;
+    let with_plan = top_command(alloc).subcommand(plan)?;
     let check = place_command(alloc, "check", "model")?;
+    let with_check = with_plan.subcommand(check)?;
     let generate = place_command(alloc, "gen", "number")?;
+    let with_generate = with_check.subcommand(generate)?;
     let trial = place_command(alloc, "trial", "number")?;
-    top_command(alloc)
-        .subcommand(plan)?
-        .subcommand(check)?
-        .subcommand(generate)?
-        .subcommand(trial)
+    with_generate.subcommand(trial)
 }
 
 /// What the parser makes of the words.

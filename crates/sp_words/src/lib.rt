@@ -7,9 +7,8 @@ mod laws;
 mod pieces;
 mod reading;
 mod taken;
-#[cfg(test)]
-mod tests;
 
 pub use job::{Job, Name, PlanWords, WordsError};
 pub use laws::words_ask_once;
 pub use reading::read_words;
+pub use taken::read_by_parser;

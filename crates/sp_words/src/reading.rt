@@ -11,7 +11,7 @@ use crate::job::{Job, Name, PlanWords, WordsError};
 use crate::pieces::{
     Piece, flag_count, is_name, lacks, number_in, number_of, only_place, only_value, pieces_of,
 };
-use crate::taken::read_taken;
+use crate::taken::read_by_parser;
 use std::alloc::Global;
 
 /// What the words of a call ask for: what is listed, and where they aren't of the list what the parser of command lines makes of them.
@@ -22,7 +22,7 @@ pub fn read_words(alloc: Global, words: &[String]) -> Result<Job, WordsError>
 {
     match read_listed(alloc, words) {
         Ok(job) => Ok(job),
-        Err(WordsError::Usage) => read_taken(alloc, words),
+        Err(WordsError::Usage) => read_by_parser(alloc, words),
         Err(WordsError::NoMemory) => Err(WordsError::NoMemory),
     }
 }

@@ -13,8 +13,9 @@ use clap::ArgMatches;
 use clap::error::ErrorKind;
 use std::alloc::Global;
 
-/// What the parser of command lines makes of the words.
-pub fn read_taken(alloc: Global, words: &[String]) -> Result<Job, WordsError>
+/// What the words ask for by the parser of command lines alone, be they of the list or not. `read_words` asks it where they
+/// aren't; it is public so that the two ways of reading can be compared on listed words.
+pub fn read_by_parser(alloc: Global, words: &[String]) -> Result<Job, WordsError>
     ensures asks { IfOk result (AsksByParser (map string_bytes words.now)) }
     ensures usage { result ≡ Err WordsError.Usage → (job : Job) → ¬ (AsksByParser (map string_bytes words.now) job) }
 {

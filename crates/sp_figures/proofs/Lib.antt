@@ -1,0 +1,2 @@
+mod TwinLemmas
+mod Points
