@@ -11,6 +11,8 @@ pub mod Branching
 pub mod Reduced
 pub mod Dependence
 pub mod Attained
+pub mod Worded
+pub mod Ranges
 pub mod Flattened
 pub mod Indexing
 pub mod Keeping

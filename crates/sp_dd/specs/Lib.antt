@@ -8,6 +8,7 @@ pub mod NodeLists
 pub mod Ordered
 pub mod Walks
 pub mod Chained
+pub mod Wording
 pub mod Flat
 pub mod Hashes
 pub mod Kept

@@ -17,6 +17,7 @@ use crate::part::Part;
 use crate::shared::Shared;
 use crate::slots::Scope;
 use crate::walk::{Source, Step, walk_branch};
+use crate::words::Words;
 use std::alloc::Global;
 use std::marker::Model;
 
@@ -29,6 +30,9 @@ pub struct Diagram {
     nodes: Shared,
     root: Part,
 }
+
+/// Room for the parts of nodes in the making.
+const STACK: usize = 64;
 
 impl Model for Diagram {
     ghost use Rattle.sp_dd.specs.Func.{Func};
@@ -67,10 +71,11 @@ impl Diagram {
                 let room = source.room();
                 let mut memo = Memo::new(alloc, room)?;
                 let mut draft = Draft::new(alloc, room)?;
-                let mut stack = Vec::new(alloc);
-                let root = walk_branch(
+                let mut stack = Words::with_room(alloc, STACK)?;
+                walk_branch(
                     scope, source, &mut memo, &mut draft, &mut stack, state, slot,
                 )?;
+                let root = stack.get(0);
                 let nodes = Shared::new(alloc, draft.finish())?;
                 Ok(Diagram {
                     scope: *scope,
@@ -98,12 +103,13 @@ impl Diagram {
         ensures { IfOk result (λ h. h ≡ function_of scope.now (λ p. S.meaning source.now (made_node slot (drop start list.old.items)) (at p))) }
     {
         let _ = scope.slots();
-        let mut memo = BundleMemo::new(alloc)?;
+        let mut memo = BundleMemo::new(alloc);
         let mut draft = Draft::new(alloc, 0)?;
-        let mut stack = Vec::new(alloc);
-        let root = walk_bundle(
+        let mut stack = Words::with_room(alloc, STACK)?;
+        walk_bundle(
             scope, source, &mut memo, &mut draft, &mut stack, list, start, slot,
         )?;
+        let root = stack.get(0);
         let nodes = Shared::new(alloc, draft.finish())?;
         Ok(Diagram {
             scope: *scope,
@@ -135,7 +141,8 @@ impl Diagram {
         self.root
     }
 
-    /// The same function once more. The list of nodes is shared: a copy takes neither memory nor time.
+    /// The same function once more. The list of nodes is shared, so that a copy costs the same whatever their number. It may be
+    /// refused as a growth can.
     pub fn copied(&self, _alloc: Global) -> Result<Diagram, NoMemory>
         ensures { IfOk result (λ h. h ≡ self.now) }
     {

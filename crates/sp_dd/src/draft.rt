@@ -1,67 +1,86 @@
 //! Nodes in the making: a list in which no node stands twice.
-ghost use Rattle.std.specs.Prelude.{◌≡◌, ◌≢◌, ℕ, ◌<◌, ◌≤◌, ◌%◌, ◌/◌, [], ◌∷◌, length, map, IfOk, MatchOption};
+ghost use Rattle.std.specs.Prelude.{◌≡◌, ◌≢◌, ℕ, ◌<◌, ◌≤◌, [], ◌∷◌, length, drop, map, IfOk, OnErr, MatchOption};
 ghost use Rattle.sp_dd.specs.NodeLists.{made_node, joined, all_are, first_part};
 ghost use Rattle.sp_dd.specs.Ordered.{node_at};
-ghost use Rattle.sp_dd.specs.Hashes.{mixed, part_hash, node_hash};
+ghost use Rattle.sp_dd.specs.Hashes.{node_hash, AreApart, IsIndexed, IsPut};
 
 use crate::NoMemory;
 use crate::chains::Chains;
-use crate::nodes::Nodes;
+use crate::nodes::{Nodes, hash_of};
 use crate::part::Part;
+use crate::words::Words;
 use std::alloc::Global;
 use std::marker::Model;
 
-/// A list of nodes in the making, in which each node is found by its content.
+/// A list of nodes in the making, in which each node is found by its content. While there are few they are found one by one.
 #[derive(Drop)]
 pub struct Draft {
     nodes: Nodes,
-    hashes: Chains,
+    hashes: Option<Chains>,
 }
 
 impl Model for Draft {
     ghost use Rattle.std.specs.Prelude.{List};
     ghost use Rattle.sp_dd.specs.NodeLists.{Node};
-    ghost use Rattle.sp_dd.specs.Hashes.{IsIndexed};
+    ghost use Rattle.sp_dd.specs.Hashes.{IsDraft};
 
     ghost Value = { List Node };
 
     ghost view = { λ d. d.nodes };
 
-    ghost invariant = { λ d. IsIndexed d.nodes d.hashes };
+    ghost invariant = { λ d. IsDraft d.nodes d.hashes };
 }
 
+/// How many nodes are found one by one.
+const FEW: usize = 8;
+
 impl Draft {
-    /// No nodes, with room in the table for that many.
+    /// No nodes, with room for that many.
     pub fn new(alloc: Global, room: usize) -> Result<Draft, NoMemory>
         ensures { IfOk result (λ d. d ≡ []) }
     {
+        let nodes = Nodes::with_room(alloc, room)?;
+        if room <= FEW {
+            return Ok(Draft {
+                nodes,
+                hashes: None,
+            });
+        }
         let hashes = Chains::new(alloc, room)?;
         Ok(Draft {
-            nodes: Nodes::new(alloc),
-            hashes,
+            nodes,
+            hashes: Some(hashes),
         })
     }
 
-    /// The part with that slot and these parts: the only part where all are one, else their node, which is added where it is new.
+    /// The part with that slot and the parts of a list from a place on: the only part where all are one, else their node, which is
+    /// added where it is new.
     #[inline(always)]
-    pub fn join(&mut self, slot: u64, parts: &[Part]) -> Result<Part, NoMemory>
-        ensures { IfOk result (λ a. joined slot (self.old, parts.now) ≡ (self.new, a)) }
+    pub fn join(&mut self, slot: u64, list: &Words, start: usize) -> Result<Part, NoMemory>
+        requires { start ≤ length list.now }
+        ensures { IfOk result (λ a. joined slot (self.old, drop start list.now) ≡ (self.new, a)) }
     {
-        let first = first_of(parts);
-        if are_all(first, parts) {
-            return Ok(first);
+        if are_one(list, start) {
+            return Ok(first_of(list, start));
         }
-        let hash = hash_of(slot, parts);
-        if let Some(at) = find(&self.nodes, &self.hashes, hash, slot, parts) {
-            return Ok(Part::At(at));
-        }
-        let at = self.nodes.len();
-        self.nodes.push(slot, parts)?;
-        if self.hashes.push(hash).is_err() {
-            self.nodes.pop();
-            return Err(NoMemory);
-        }
+        let at = self.place(slot, list, start)?;
         Ok(Part::At(at))
+    }
+
+    /// The place of the node with that slot and the parts of a list from a place on, which is added where it is new.
+    #[inline(always)]
+    fn place(&mut self, slot: u64, list: &Words, start: usize) -> Result<usize, NoMemory>
+        requires { start ≤ length list.now }
+        ensures { IfOk result (λ at. IsPut (made_node slot (drop start list.now)) self.old self.new at) }
+    {
+        if self.hashes.is_none() && self.nodes.len() >= FEW {
+            let hashes = hashes_of(&self.nodes)?;
+            self.hashes = Some(hashes);
+        }
+        match &mut self.hashes {
+            Some(hashes) => place_by_hash(&mut self.nodes, hashes, slot, list, start),
+            None => place_among(&mut self.nodes, slot, list, start),
+        }
     }
 
     /// The finished list.
@@ -72,17 +91,96 @@ impl Draft {
     }
 }
 
-/// The place of the node with that slot and these parts.
+/// The place of a node in a list with the hash of each, or at its end, where it then is.
 #[inline(always)]
-fn find(nodes: &Nodes, hashes: &Chains, hash: u64, slot: u64, parts: &[Part]) -> Option<usize>
+fn place_by_hash(
+    nodes: &mut Nodes,
+    hashes: &mut Chains,
+    slot: u64,
+    list: &Words,
+    start: usize,
+) -> Result<usize, NoMemory>
+    requires start { start ≤ length list.now }
+    requires indexed { IsIndexed nodes.old hashes.old }
+    ensures place { IfOk result (λ at. IsPut (made_node slot (drop start list.now)) nodes.old nodes.new at) }
+    ensures same { OnErr result (nodes.new ≡ nodes.old) }
+    ensures indexed { IsIndexed nodes.new hashes.new }
+{
+    let hash = hash_of(slot, list, start, list.len() - start);
+    if let Some(at) = find(nodes, hashes, hash, slot, list, start) {
+        return Ok(at);
+    }
+    let at = nodes.len();
+    nodes.push(slot, list, start)?;
+    if hashes.push(hash).is_err() {
+        nodes.pop();
+        return Err(NoMemory);
+    }
+    nodes.count_uses(list, start);
+    Ok(at)
+}
+
+/// The place of a node in a list of few, or at its end, where it then is.
+fn place_among(nodes: &mut Nodes, slot: u64, list: &Words, start: usize) -> Result<usize, NoMemory>
+    requires start { start ≤ length list.now }
+    requires apart { AreApart nodes.old }
+    ensures place { IfOk result (λ at. IsPut (made_node slot (drop start list.now)) nodes.old nodes.new at) }
+    ensures same { OnErr result (nodes.new ≡ nodes.old) }
+    ensures apart { AreApart nodes.new }
+{
+    if let Some(at) = find_among(nodes, slot, list, start) {
+        return Ok(at);
+    }
+    let at = nodes.len();
+    nodes.push(slot, list, start)?;
+    nodes.count_uses(list, start);
+    Ok(at)
+}
+
+/// The hash of each node.
+#[inline(never)]
+fn hashes_of(nodes: &Nodes) -> Result<Chains, NoMemory>
+    ensures { IfOk result (λ hashes. hashes ≡ map node_hash nodes.now) }
+{
+    let mut hashes = Chains::new(nodes.allocator(), nodes.len())?;
+    for at in 0..nodes.len() {
+        hashes.push(nodes.hash(at))?;
+    }
+    Ok(hashes)
+}
+
+/// The place of a node, looked for one by one.
+fn find_among(nodes: &Nodes, slot: u64, list: &Words, start: usize) -> Option<usize>
+    requires { start ≤ length list.now }
+    ensures { MatchOption result ((j : ℕ) → j < length nodes.now → node_at nodes.now j ≢ made_node slot (drop start list.now)) (λ at. (at < length nodes.now) × (node_at nodes.now at ≡ made_node slot (drop start list.now))) }
+{
+    for at in 0..nodes.len() {
+        if nodes.is_at(at, slot, list, start) {
+            return Some(at);
+        }
+    }
+    None
+}
+
+/// The place of a node, looked for by its hash.
+#[inline(always)]
+fn find(
+    nodes: &Nodes,
+    hashes: &Chains,
+    hash: u32,
+    slot: u64,
+    list: &Words,
+    start: usize,
+) -> Option<usize>
+    requires start { start ≤ length list.now }
     requires hashes { hashes.now ≡ map node_hash nodes.now }
-    requires hash { hash ≡ node_hash (made_node slot parts.now) }
-    ensures { MatchOption result ((j : ℕ) → j < length nodes.now → node_at nodes.now j ≢ made_node slot parts.now) (λ at. (at < length nodes.now) × (node_at nodes.now at ≡ made_node slot parts.now)) }
+    requires hash { hash ≡ node_hash (made_node slot (drop start list.now)) }
+    ensures { MatchOption result ((j : ℕ) → j < length nodes.now → node_at nodes.now j ≢ made_node slot (drop start list.now)) (λ at. (at < length nodes.now) × (node_at nodes.now at ≡ made_node slot (drop start list.now))) }
 {
     let mut top = hashes.above(hash);
     while top > 0 {
         let at = top - 1;
-        if nodes.is_at(at, slot, parts) {
+        if nodes.is_at(at, slot, list, start) {
             return Some(at);
         }
         top = hashes.before(at);
@@ -92,74 +190,27 @@ fn find(nodes: &Nodes, hashes: &Chains, hash: u64, slot: u64, parts: &[Part]) ->
 
 /// The first part.
 #[inline(always)]
-fn first_of(parts: &[Part]) -> Part
-    ensures { result ≡ first_part parts.now }
+fn first_of(list: &Words, start: usize) -> Part
+    requires { start ≤ length list.now }
+    ensures { result ≡ first_part (drop start list.now) }
 {
-    match parts.first() {
-        Some(part) => *part,
-        None => Part::Leaf(0),
+    if start < list.len() {
+        list.get(start)
+    } else {
+        Part::Leaf(0)
     }
 }
 
-/// Whether all parts are that one.
+/// Whether all parts are the first.
 #[inline(always)]
-fn are_all(first: Part, parts: &[Part]) -> bool
-    ensures { result ≡ all_are first parts.now }
+fn are_one(list: &Words, start: usize) -> bool
+    requires { start ≤ length list.now }
+    ensures { result ≡ all_are (first_part (drop start list.now)) (drop start list.now) }
 {
-    for part in parts {
-        if !first.is_same(part) {
+    for i in start..list.len() {
+        if !list.same(start, list, i) {
             return false;
         }
     }
     true
-}
-
-const SPREAD: u64 = 0x9e37_79b9_7f4a_7c15;
-
-/// A hash with one more word.
-#[inline(always)]
-pub fn mix(hash: u64, word: u64) -> u64
-    ensures { result ≡ mixed hash word }
-{
-    (hash ^ word).wrapping_mul(SPREAD)
-}
-
-/// A hash with one more part.
-#[inline(always)]
-pub fn mix_part(hash: u64, part: &Part) -> u64
-    ensures { result ≡ part_hash hash part.now }
-{
-    match part {
-        Part::Leaf(value) => {
-            let bits = value.cast_unsigned();
-            mix(mix(hash, low_word(bits)), high_word(bits))
-        }
-        Part::At(at) => mix(hash, *at as u64),
-    }
-}
-
-#[inline(always)]
-fn low_word(bits: u128) -> u64
-    ensures { result ≡ bits % 18446744073709551616 }
-{
-    (bits % 18446744073709551616) as u64
-}
-
-#[inline(always)]
-fn high_word(bits: u128) -> u64
-    ensures { result ≡ bits / 18446744073709551616 % 18446744073709551616 }
-{
-    (bits / 18446744073709551616 % 18446744073709551616) as u64
-}
-
-/// The hash of a node.
-#[inline(always)]
-pub fn hash_of(slot: u64, parts: &[Part]) -> u64
-    ensures { result ≡ node_hash (made_node slot parts.now) }
-{
-    let mut hash = slot;
-    for part in parts {
-        hash = mix_part(hash, part);
-    }
-    hash
 }

@@ -11,13 +11,17 @@ mod chains;
 mod diagram;
 mod draft;
 mod laws;
+mod leaves;
 mod lists;
+mod marks;
 mod memo;
+mod mixing;
 mod nodes;
 mod part;
 mod shared;
 mod slots;
 mod walk;
+mod words;
 
 pub use bundle::{Bundle, BundleSource};
 pub use diagram::{Diagram, one_list_law, reduced_law};

@@ -1,10 +1,13 @@
 //! What is remembered of the states of a walk.
 ghost use Rattle.std.specs.Prelude.{◌≡◌, ◌<◌, ◌↔◌, IsTrue, IfSome, IfOk, OnOk, OnErr, [], ◌∷◌, ◌++◌, length};
-ghost use Rattle.sp_dd.specs.Kept.{made_entry, entries_of, HasEntry};
+ghost use Rattle.std.specs.Bool.{OnTrue};
+ghost use Rattle.sp_dd.specs.Kept.{made_entry, HasEntry, HasCell, IsCellOf};
+ghost use Rattle.sp_dd.specs.Wording.{IsGrown};
 
 use crate::NoMemory;
-use crate::chains::{slot_of, width_for, zeros};
-use crate::draft::{mix, mix_part};
+use crate::leaves::Leaves;
+use crate::marks::{Marks, REACH};
+use crate::mixing::{mix, mix_part, upper};
 use crate::part::Part;
 use std::alloc::Global;
 use std::marker::Model;
@@ -41,25 +44,16 @@ pub struct State {
 }
 
 impl State {
-    /// Whether two states are one.
-    #[inline(always)]
-    pub fn is_same(&self, other: &State) -> bool
-        ensures { IsTrue result ↔ self.now ≡ other.now }
-    {
-        self.left.is_same(&other.left)
-            && self.right.is_same(&other.right)
-            && self.choice.is_same(other.choice)
-    }
-
     /// A hash of the state.
     #[inline(always)]
     pub fn hash(&self) -> u64 {
-        let first = match self.choice {
-            Choice::Open => 1,
-            Choice::Left => 2,
-            Choice::Right => 3,
-        };
-        mix(mix_part(mix_part(first, &self.left), &self.right), 0)
+        mix(
+            mix_part(
+                mix_part(first_hash(self.choice), &self.left).rotate_left(32),
+                &self.right,
+            ),
+            0,
+        )
     }
 }
 
@@ -70,40 +64,58 @@ pub struct Entry {
     pub part: Part,
 }
 
-/// An entry, and one more than the place of an earlier cell in the same slot of the table.
+/// An entry in words.
 #[derive(Clone, Copy)]
 pub struct Cell {
-    pub entry: Entry,
-    pub before: usize,
+    pub left: u64,
+    pub right: u64,
+    pub part: u64,
+    pub choice: Choice,
 }
 
-/// States with their parts. A state is looked for by its hash.
+/// States with their parts. A state is looked for by its hash, and may be forgotten.
 #[derive(Drop)]
 pub struct Memo {
     cells: Vec<Cell>,
-    tops: Vec<usize>,
+    marks: Marks,
+    leaves: Leaves,
 }
 
 impl Model for Memo {
-    ghost use Rattle.std.specs.Prelude.{List, ◌<◌, length};
+    ghost use Rattle.std.specs.Prelude.{List, length};
     ghost use Rattle.sp_dd.specs.declared.memo.Entry.{Entry};
-    ghost use Rattle.sp_dd.specs.Kept.{entries_of};
+    ghost use Rattle.sp_dd.specs.Kept.{entries_of, AreCells};
 
     ghost Value = { List Entry };
 
-    ghost view = { λ m. entries_of m.cells.items };
+    ghost view = { λ m. entries_of m.leaves m.cells.items };
 
-    ghost invariant = { λ m. 0 < length m.tops.items };
+    ghost invariant = { λ m. AreCells (length m.leaves) m.cells.items };
 }
+
+/// How many states are looked for one by one.
+const FEW: usize = 8;
 
 impl Memo {
     /// Nothing, with room for that many states.
     pub fn new(alloc: Global, room: usize) -> Result<Memo, NoMemory>
         ensures { IfOk result (λ m. m ≡ []) }
     {
-        let tops = zeros(alloc, 2 * width_for(room))?;
+        let leaves = Leaves::new(alloc);
+        if room <= FEW {
+            return Ok(Memo {
+                cells: Vec::new(alloc),
+                marks: Marks::new(alloc),
+                leaves,
+            });
+        }
+        let marks = Marks::with_room(alloc, room)?;
         let cells = Vec::with_capacity(alloc, room)?;
-        Ok(Memo { cells, tops })
+        Ok(Memo {
+            cells,
+            marks,
+            leaves,
+        })
     }
 
     /// What is remembered of a state.
@@ -111,18 +123,18 @@ impl Memo {
     pub fn find(&self, state: &State, hash: u64) -> Option<Part>
         ensures { IfSome result (λ a. HasEntry self.now state.now a) }
     {
-        let mut top = self.tops[slot_of(hash, self.tops.len())];
-        while top > 0 {
-            if top > self.cells.len() {
-                return None;
-            }
-            let cell = self.cells[top - 1];
-            if cell.entry.state.is_same(state) {
-                return Some(cell.entry.part);
-            }
-            top = cell.before.min(top - 1);
-        }
-        None
+        let left = self.leaves.word(state.left)?;
+        let right = self.leaves.word(state.right)?;
+        let place = seek(
+            &self.marks,
+            &self.cells,
+            upper(hash),
+            left,
+            right,
+            state.choice,
+        )?;
+        let cell = self.cells[place];
+        Some(self.leaves.part(cell.part))
     }
 
     /// Remembers a state's part.
@@ -131,42 +143,123 @@ impl Memo {
         ensures ok { OnOk result (self.new ≡ self.old ++ made_entry state part ∷ []) }
         ensures err { OnErr result (self.new ≡ self.old) }
     {
-        if self.cells.len() >= self.tops.len() / 2 {
-            self.widen()?;
-        }
-        let slot = slot_of(hash, self.tops.len());
-        let before = self.tops[slot];
-        self.cells
-            .push(Cell {
-                entry: Entry { state, part },
-                before,
-            })
-            .map_err(|_| NoMemory)?;
-        self.tops[slot] = self.cells.len();
+        self.mark(hash)?;
+        let cell = cell_of(&mut self.leaves, state, part)?;
+        self.cells.push(cell).map_err(|_| NoMemory)?;
         Ok(())
     }
 
-    #[inline(never)]
-    fn widen(&mut self) -> Result<(), NoMemory>
+    /// Marks the place of the next cell, unless the cells are few.
+    #[inline(always)]
+    fn mark(&mut self, hash: u64) -> Result<(), NoMemory>
         ensures { self.new ≡ self.old }
     {
-        let count = self.tops.len().saturating_mul(2);
-        let alloc = *self.cells.allocator();
-        let mut tops = zeros(alloc, count)?;
-        relink(&mut self.cells, &mut tops);
-        self.tops = tops;
+        let place = self.cells.len();
+        if self.marks.is_empty() {
+            if place < FEW {
+                return Ok(());
+            }
+            mark_all(&mut self.marks, &self.cells)?;
+        }
+        self.marks.note(upper(hash), place)?;
         Ok(())
     }
 }
 
-fn relink(cells: &mut [Cell], tops: &mut [usize])
-    requires some { 0 < length tops.old }
-    ensures some { 0 < length tops.new }
-    ensures same { entries_of cells.new ≡ entries_of cells.old }
-{
-    for i in 0..cells.len() {
-        let slot = slot_of(cells[i].entry.state.hash(), tops.len());
-        cells[i].before = tops[slot];
-        tops[slot] = i + 1;
+/// Marks all cells.
+#[inline(never)]
+fn mark_all(marks: &mut Marks, cells: &[Cell]) -> Result<(), NoMemory> {
+    for place in 0..cells.len() {
+        marks.note(hash_of(cells[place]), place)?;
     }
+    Ok(())
+}
+
+/// The hash of a cell's state.
+fn hash_of(cell: Cell) -> u32 {
+    upper(mix(
+        mix(
+            mix(first_hash(cell.choice), cell.left).rotate_left(32),
+            cell.right,
+        ),
+        0,
+    ))
+}
+
+/// The hash of a choice.
+#[inline(always)]
+fn first_hash(choice: Choice) -> u64 {
+    match choice {
+        Choice::Open => 1,
+        Choice::Left => 2,
+        Choice::Right => 3,
+    }
+}
+
+/// A state and its part in words.
+#[inline(always)]
+fn cell_of(leaves: &mut Leaves, state: State, part: Part) -> Result<Cell, NoMemory>
+    ensures ok { IfOk result (λ cell. IsGrown leaves.old leaves.new × IsCellOf leaves.new state part cell) }
+    ensures err { OnErr result (IsGrown leaves.old leaves.new) }
+{
+    let left = leaves.keep(state.left)?;
+    let right = leaves.keep(state.right)?;
+    let part = leaves.keep(part)?;
+    Ok(Cell {
+        left,
+        right,
+        part,
+        choice: state.choice,
+    })
+}
+
+/// The place of the cell of a state: among the first few, or where a mark leads.
+#[inline(always)]
+fn seek(
+    marks: &Marks,
+    cells: &[Cell],
+    hash: u32,
+    left: u64,
+    right: u64,
+    choice: Choice,
+) -> Option<usize>
+    ensures { IfSome result (λ k. HasCell cells.now left right choice k) }
+{
+    if marks.is_empty() {
+        return seek_first(cells, left, right, choice);
+    }
+    for step in 0..REACH {
+        let mark = marks.at(hash, step);
+        if mark.after == 0 {
+            return None;
+        }
+        let place = (mark.after - 1) as usize;
+        if mark.hash == hash && is_cell(cells, place, left, right, choice) {
+            return Some(place);
+        }
+    }
+    None
+}
+
+fn seek_first(cells: &[Cell], left: u64, right: u64, choice: Choice) -> Option<usize>
+    ensures { IfSome result (λ k. HasCell cells.now left right choice k) }
+{
+    for place in 0..cells.len() {
+        if is_cell(cells, place, left, right, choice) {
+            return Some(place);
+        }
+    }
+    None
+}
+
+/// Whether a place has the cell of a state.
+#[inline(always)]
+fn is_cell(cells: &[Cell], place: usize, left: u64, right: u64, choice: Choice) -> bool
+    ensures { OnTrue result (HasCell cells.now left right choice place) }
+{
+    if place >= cells.len() {
+        return false;
+    }
+    let cell = cells[place];
+    cell.left == left && cell.right == right && cell.choice.is_same(choice)
 }

@@ -9,7 +9,7 @@ use std::alloc::Global;
 use std::marker::Model;
 use std::sync::Arc;
 
-/// A finished list of nodes. A further owner takes no memory.
+/// A finished list of nodes. A further owner copies nothing of it.
 #[derive(Drop)]
 pub struct Shared {
     nodes: Arc<Nodes>,
@@ -33,7 +33,7 @@ impl Shared {
         Ok(Shared { nodes })
     }
 
-    /// One more owner.
+    /// One more owner, which may be refused as a growth can.
     pub fn again(&self) -> Result<Shared, NoMemory>
         ensures { IfOk result (λ s. s ≡ self.now) }
     {

@@ -1,7 +1,6 @@
 //! A walk through a function that is given by states.
-ghost use Rattle.std.specs.Prelude.{◌≡◌, ℕ, suc, List, ◌<◌, ◌≤◌, ◌∷◌, [], ◌++◌, length, drop, slice_index, IfOk, OnOk, ℤ};
-ghost use Rattle.sp_dd.specs.NodeLists.{joined};
-ghost use Rattle.sp_dd.specs.Walks.{whole, IsFromSlot, ArePositive};
+ghost use Rattle.std.specs.Prelude.{◌≡◌, ℕ, suc, List, ◌<◌, length, slice_index, OnOk, ℤ};
+ghost use Rattle.sp_dd.specs.Walks.{IsFromSlot, IsWalked, ArePositive};
 ghost use Rattle.sp_dd.specs.Sources.{IfLeaf, IfBranch};
 ghost use Rattle.sp_dd.specs.Kept.{AreKnown};
 ghost use Rattle.sp_dd.specs.declared.memo.State.{State};
@@ -11,6 +10,7 @@ use crate::draft::Draft;
 use crate::memo::{Memo, State};
 use crate::part::Part;
 use crate::slots::Scope;
+use crate::words::Words;
 
 /// What a state is: a leaf, or a branch on a slot.
 #[derive(Clone, Copy)]
@@ -35,6 +35,11 @@ pub trait Source {
     /// For how many states it may be well to have room at first.
     fn room(&self) -> usize;
 
+    /// Whether a walk may come to a state again. One to which it comes once isn't remembered. Nothing but time rests on the answer.
+    fn is_recurring(&self, _state: &State) -> bool {
+        true
+    }
+
     /// Whether a state is a leaf, or on which slot it branches.
     fn step(&self, state: State) -> Step
         requires { IsState self.now state }
@@ -53,17 +58,17 @@ pub trait Source {
         ensures value { (π : ℕ → ℕ) → π at ≡ value → meaning self.now state π ≡ meaning self.now result π };
 }
 
-/// Adds the nodes of the function of a state that branches on a slot to a draft. `stack` is room for the parts of nodes in the
-/// making.
+/// Adds the nodes of the function of a state that branches on a slot to a draft, and the function's part to `stack`, which is room
+/// for the parts of nodes in the making.
 pub fn walk_branch<S: Source>(
     scope: &Scope,
     source: &S,
     memo: &mut Memo,
     draft: &mut Draft,
-    stack: &mut Vec<Part>,
+    stack: &mut Words,
     state: State,
     slot: u64,
-) -> Result<Part, NoMemory>
+) -> Result<(), NoMemory>
     requires state { S.IsState source.now state }
     requires sizes { S.sizes source.now ≡ scope.now.sizes }
     requires positive { ArePositive scope.now.sizes }
@@ -71,50 +76,30 @@ pub fn walk_branch<S: Source>(
     requires slot { slot ≡ S.slot source.now state }
     requires within { slot < length scope.now.sizes }
     requires later { IsFromSlot slot (S.meaning source.now state) }
-    ensures made { IfOk result (λ a. whole scope.now.sizes (S.meaning source.now state) draft.old ≡ (draft.new, a)) }
+    ensures made { OnOk result (IsWalked scope.now.sizes (S.meaning source.now state) draft.old draft.new stack.old stack.new) }
     ensures known { OnOk result (AreKnown scope.now.sizes (S.meaning source.now) memo.new draft.new) }
-    ensures stack { OnOk result (stack.new.items ≡ stack.old.items) }
 {
-    let hash = state.hash();
-    if let Some(part) = memo.find(&state, hash) {
-        return Ok(part);
+    let is_recurring = source.is_recurring(&state);
+    if is_recurring {
+        if let Some(part) = memo.find(&state, state.hash()) {
+            stack.push(part)?;
+            return Ok(());
+        }
     }
     let start = stack.len();
     for value in 0..scope.size(slot) {
         let next = source.next(state, slot, value);
         match source.step(next) {
-            Step::Leaf(leaf) => push_part(stack, Part::Leaf(leaf))?,
-            Step::Branch(later) => {
-                let part = walk_branch(scope, source, memo, draft, stack, next, later)?;
-                push_part(stack, part)?;
-            }
+            Step::Leaf(leaf) => stack.push(Part::Leaf(leaf))?,
+            Step::Branch(later) => walk_branch(scope, source, memo, draft, stack, next, later)?,
         }
     }
-    let part = join_rest(draft, slot, stack, start)?;
+    let part = draft.join(slot, stack, start)?;
     stack.truncate(start);
-    memo.keep(state, hash, part)?;
-    Ok(part)
-}
-
-#[inline(always)]
-pub fn push_part(stack: &mut Vec<Part>, part: Part) -> Result<(), NoMemory>
-    ensures { OnOk result (stack.new.items ≡ stack.old.items ++ part ∷ []) }
-{
-    stack.push(part).map_err(|_| NoMemory)?;
+    stack.push(part)?;
+    if !is_recurring {
+        return Ok(());
+    }
+    memo.keep(state, state.hash(), part)?;
     Ok(())
-}
-
-#[inline(always)]
-pub fn join_rest(
-    draft: &mut Draft,
-    slot: u64,
-    stack: &Vec<Part>,
-    start: usize,
-) -> Result<Part, NoMemory>
-    requires { start ≤ length stack.now.items }
-    ensures { IfOk result (λ a. joined slot (draft.old, drop start stack.now.items) ≡ (draft.new, a)) }
-{
-    let parts = &stack[start..];
-    let part = draft.join(slot, parts)?;
-    Ok(part)
 }

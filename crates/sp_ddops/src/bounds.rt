@@ -1,12 +1,13 @@
 //! The least and the greatest value of a function.
-ghost use Rattle.std.specs.Prelude.{◌≡◌, ◌⊎◌, ℕ, ℤ, ◌<◌, length, slice_index_or, pos};
+ghost use Rattle.std.specs.Prelude.{◌≡◌, ◌⊎◌, ℕ, ℤ, ◌<◌, length};
 ghost use Rattle.sp_dd.specs.declared.part.Part.TheVariants.{Leaf};
 ghost use Rattle.std.specs.Bool.{OnTrue, OnFalse};
+ghost use Rattle.sp_dd.specs.Ordered.{node_at, part_at};
 ghost use Rattle.sp_dd.specs.Operations.{IsLeast, IsGreatest};
 ghost use Rattle.sp_ddops.specs.Best.{IsBest, HasLeaf, IsExtreme};
 
 use crate::cofactor::leaf_in;
-use sp_dd::{Diagram, Part, reduced_law};
+use sp_dd::{Diagram, Nodes, Part, reduced_law};
 
 /// The least value over all points. Takes no memory.
 pub fn least(f: &Diagram) -> i128
@@ -26,28 +27,31 @@ pub fn greatest(f: &Diagram) -> i128
 fn extreme(f: &Diagram, is_greatest: bool) -> i128
     ensures { IsExtreme is_greatest f.now result }
 {
-    let _ = f.scope();
+    let scope = f.scope();
     reduced_law(f);
     let nodes = f.nodes();
     let mut best = match f.root() {
         Part::Leaf(value) => return value,
         Part::At(_) => leaf_in(nodes.part(0, 0)),
     };
-    for i in 0..nodes.len() {
-        best = best_of(nodes.parts(i), is_greatest, best);
+    for at in 0..nodes.len() {
+        let count = scope.size(nodes.slot(at));
+        best = best_of(nodes, at, count, is_greatest, best);
     }
     best
 }
 
-/// The best of a value and the leaves among the parts.
-fn best_of(parts: &[Part], is_greatest: bool, first: i128) -> i128
+/// The best of a value and the leaves among a node's parts.
+fn best_of(nodes: &Nodes, at: usize, count: u64, is_greatest: bool, first: i128) -> i128
+    requires at { at < length nodes.now }
+    requires count { count ≡ length (node_at nodes.now at).parts }
     ensures kept { IsBest is_greatest result first }
-    ensures all { (v : ℕ) (z : ℤ) → v < length parts.now → slice_index_or parts.now v (Leaf (pos 0)) ≡ Leaf z → IsBest is_greatest result z }
-    ensures from { (result ≡ first) ⊎ HasLeaf parts.now result }
+    ensures all { (v : ℕ) (z : ℤ) → v < count → part_at nodes.now at v ≡ Leaf z → IsBest is_greatest result z }
+    ensures from { (result ≡ first) ⊎ HasLeaf (node_at nodes.now at).parts result }
 {
     let mut best = first;
-    for i in 0..parts.len() {
-        best = better(is_greatest, best, parts[i]);
+    for value in 0..count {
+        best = better(is_greatest, best, nodes.part(at, value));
     }
     best
 }

@@ -1,73 +1,50 @@
-//! The first point at which two functions stand in a relation.
-ghost use Rattle.std.specs.Prelude.{◌≡◌, ◌≢◌, ℕ, ◌<◌, ◌≤◌, length, slice_index_or, pos, IfOk, MatchOption};
+//! The first point at which a function isn't a number.
+ghost use Rattle.std.specs.Prelude.{◌≡◌, ◌≢◌, ℕ, ◌<◌, ◌≤◌, length, IfOk, MatchOption};
 ghost use Rattle.sp_dd.specs.declared.part.Part.TheVariants.{Leaf};
-ghost use Rattle.sp_dd.specs.Func.{Everywhere};
-ghost use Rattle.sp_dd.specs.Operations.{IsAtMost, IsFirstAbove, IsFirstApart};
-ghost use Rattle.sp_dd.specs.Ordered.{IsBefore};
+ghost use Rattle.sp_dd.specs.Func.{Everywhere, IsScope};
+ghost use Rattle.sp_dd.specs.Operations.{IsFirstApart};
+ghost use Rattle.sp_dd.specs.Ordered.{node_at, part_at, IsBefore, IsOrdered};
 ghost use Rattle.sp_dd.specs.Diagrams.{IsReduced};
-ghost use Rattle.sp_ddops.specs.Zero.{IsSomewhere, IsTowards, IsFirstSomewhere};
+ghost use Rattle.sp_ddops.specs.Zero.{IsTowards};
 
 use crate::cofactor::cofactor;
-use crate::pairs::{Op, combined, is_zero};
-use sp_dd::{Diagram, Ids, NoMemory, Nodes, Part, reduced_law};
+use sp_dd::{Diagram, Ids, NoMemory, Nodes, Part, Scope, reduced_law};
 use std::alloc::Global;
 
-/// The first point in slot order at which `f` is above `g`, or nothing where it is above nowhere.
-pub fn below(alloc: Global, f: &Diagram, g: &Diagram) -> Result<Option<Ids>, NoMemory>
-    requires { f.now.shape ≡ g.now.shape }
-    ensures { IfOk result (λ answer. MatchOption answer (IsAtMost f.now g.now) (λ point. IsFirstAbove f.now g.now point)) }
-{
-    let _ = f.scope();
-    let above = combined(alloc, Op::Above, f, g)?;
-    if is_zero(&above) {
-        return Ok(None);
-    }
-    let point = first_somewhere(alloc, &above)?;
-    Ok(Some(point))
-}
-
-/// The first point in slot order at which `f` isn't that number, or nothing where it is everywhere.
+/// The first point in slot order at which `f` isn't that number, or nothing where it is everywhere. Looks at the nodes on the way to
+/// that point alone: a node is never one number everywhere.
 pub fn first_apart(alloc: Global, f: &Diagram, v: i128) -> Result<Option<Ids>, NoMemory>
     ensures { IfOk result (λ answer. MatchOption answer (Everywhere f.now (λ u. u ≡ v)) (λ point. IsFirstApart f.now v point)) }
 {
-    let _ = f.scope();
-    let apart = combined(alloc, Op::Apart(v), f, f)?;
-    if is_zero(&apart) {
+    let scope = *f.scope();
+    if f.root().is_same(&Part::Leaf(v)) {
         return Ok(None);
     }
-    let point = first_somewhere(alloc, &apart)?;
-    Ok(Some(point))
-}
-
-/// The first point in slot order at which the function isn't 0.
-fn first_somewhere(alloc: Global, f: &Diagram) -> Result<Ids, NoMemory>
-    requires { IsSomewhere f.now }
-    ensures { IfOk result (λ point. IsFirstSomewhere f.now point) }
-{
-    let scope = *f.scope();
     reduced_law(f);
     let nodes = f.nodes();
     let mut point = Ids::new(alloc);
     let mut part = f.root();
     for slot in 0..scope.slots() {
-        let value = value_towards(nodes, slot, part);
+        let value = value_towards(&scope, nodes, slot, part, v);
         point.push(value)?;
         part = cofactor(nodes, slot, value, part);
     }
-    Ok(point)
+    Ok(Some(point))
 }
 
-/// The first value of a slot for which a part isn't the leaf 0.
-fn value_towards(nodes: &Nodes, slot: u64, part: Part) -> u64
+/// The first value of a slot for which a part isn't that leaf.
+fn value_towards(scope: &Scope, nodes: &Nodes, slot: u64, part: Part, v: i128) -> u64
+    requires slot { slot < length scope.now.sizes }
     requires before { IsBefore (length nodes.now) part }
+    requires ordered { IsOrdered scope.now.sizes nodes.now }
     requires reduced { IsReduced nodes.now }
-    ensures { IsTowards nodes.now slot part result }
+    ensures { IsTowards v nodes.now slot part result }
 {
     match part {
         Part::Leaf(_) => 0,
         Part::At(i) => {
             if nodes.slot(i) == slot {
-                first_other(nodes.parts(i))
+                first_other(nodes, i, scope.size(slot), v)
             } else {
                 0
             }
@@ -75,16 +52,18 @@ fn value_towards(nodes: &Nodes, slot: u64, part: Part) -> u64
     }
 }
 
-/// The place of the first part that isn't the leaf 0, or the number of parts.
-fn first_other(parts: &[Part]) -> u64
-    ensures within { result ≤ length parts.now }
-    ensures before { (u : ℕ) → u < result → slice_index_or parts.now u (Leaf (pos 0)) ≡ Leaf (pos 0) }
-    ensures other { result < length parts.now → slice_index_or parts.now result (Leaf (pos 0)) ≢ Leaf (pos 0) }
+/// The first value of a node's slot that leads to another part than that leaf, or how many values there are.
+fn first_other(nodes: &Nodes, at: usize, count: u64, v: i128) -> u64
+    requires at { at < length nodes.now }
+    requires count { count ≡ length (node_at nodes.now at).parts }
+    ensures within { result ≤ count }
+    ensures before { (u : ℕ) → u < result → part_at nodes.now at u ≡ Leaf v }
+    ensures other { result < count → part_at nodes.now at result ≢ Leaf v }
 {
-    for i in 0..parts.len() {
-        if !parts[i].is_same(&Part::Leaf(0)) {
-            return i as u64;
+    for value in 0..count {
+        if !nodes.part(at, value).is_same(&Part::Leaf(v)) {
+            return value;
         }
     }
-    parts.len() as u64
+    count
 }

@@ -11,12 +11,12 @@ decreases-walk_bundle g l = length l.scope.now.sizes - l.slot
 
 abbrev pub invariant-loop-value : goal.invariant-loop-value
 invariant-loop-value g l =
-    let now : List Node × List Part = (l.draft, drop l.first l.stack.items) in
+    let now : List Node × List Part = (l.draft, drop l.first l.stack) in
     let bundle : Node = made_node l.slot (drop l.start l.initial.list.items) in
     record {
       made : gathered (λ v. whole l.scope.sizes (fixed l.slot v (g.S.BundleSource.meaning l.source bundle))) l.value l.initial.draft ≡ now;
-      known : AreBundlesKnown l.scope.sizes (g.S.BundleSource.meaning l.source) l.memo.bundles l.memo.parts.items l.draft;
-      room : l.first ≤ length l.stack.items;
-      kept : take l.first l.stack.items ≡ l.initial.stack.items;
+      known : AreBundlesKnown l.scope.sizes (g.S.BundleSource.meaning l.source) l.memo.bundles l.memo.parts l.draft;
+      room : l.first ≤ length l.stack;
+      kept : take l.first l.stack ≡ l.initial.stack;
       list : l.list.items ≡ l.initial.list.items;
     }

@@ -1,4 +1,4 @@
-use Rattle.std.proofs.Common.{◌≢◌, arith, ◌∙◌, sym, ◌-◌}
+use Rattle.std.proofs.Common.{◌≢◌, arith, ◌∙◌, sym, ◌-◌, drop}
 use Rattle.std.proofs.lemmas.Bool.{false≢true}
 use Rattle.sp_dd.specs.NodeLists.{made_node}
 use Rattle.sp_dd.specs.Ordered.{node_at}
@@ -10,6 +10,6 @@ loop-top-init c = unfound_first _ _ _ _ _ c.requires.hashes c.requires.hash c.ab
 
 pub loop-top-preserved : goal.loop-top-preserved
 loop-top-preserved c =
-    let ne : node_at c.args.nodes.now (c.loop-top.top - 1) ≢ made_node c.args.slot c.args.parts.now =
+    let ne : node_at c.args.nodes.now (c.loop-top.top - 1) ≢ made_node c.args.slot (drop c.args.start c.args.list.now) =
     λ q. false≢true (sym c.if-is_at.false ∙ c.is_at.ensures.1 q) in
     unfound_next _ _ _ _ _ _ c.requires.hashes c.requires.hash c.loop-top.invariant (omega arith) ne c.before-top.ensures.within c.before-top.ensures.all c.before-top.ensures.same

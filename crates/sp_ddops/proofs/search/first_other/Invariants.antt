@@ -1,6 +1,7 @@
-use Rattle.std.proofs.Common.{◌≡◌, ℕ, ◌<◌, get_or, pos}
+use Rattle.std.proofs.Common.{◌≡◌, ℕ, ◌<◌}
 use Rattle.sp_dd.specs.declared.part.Part.TheVariants.{Leaf}
+use Rattle.sp_dd.specs.Ordered.{part_at}
 use Rattle.sp_ddops.proofs.search.first_other.Given as goal
 
-abbrev pub invariant-loop-i : goal.invariant-loop-i
-invariant-loop-i l = (u : ℕ) → u < l.i → get_or l.parts u (Leaf (pos 0)) ≡ Leaf (pos 0)
+abbrev pub invariant-loop-value : goal.invariant-loop-value
+invariant-loop-value l = (u : ℕ) → u < l.value → part_at l.nodes l.at u ≡ Leaf l.v

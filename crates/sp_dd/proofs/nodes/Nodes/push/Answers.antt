@@ -1,5 +1,6 @@
-use Rattle.std.proofs.Common.{◌≡◌, ◌++◌, ◌∷◌, [], List, length, rules, arith, ◌∙◌, ap₂, refl}
+use Rattle.std.proofs.Common.{◌≡◌, ◌++◌, ◌∷◌, [], List, length, drop, arith, ◌-◌, ◌∙◌, ap₂}
 use Rattle.std.proofs.lemmas.Grind.{common_steps}
+use Rattle.std.proofs.lemmas.List.{length-drop}
 use Rattle.sp_dd.specs.declared.nodes.Head.{Head}
 use Rattle.sp_dd.specs.Flat.{nodes_of}
 use Rattle.sp_dd.proofs.Flattened.{nodes_of-push, nodes_of-append, on_err}
@@ -8,15 +9,13 @@ use Rattle.sp_dd.proofs.nodes.Nodes.push.Goals as goal
 pub returns-in_err-map_err-clause-err : goal.returns-in_err-map_err-clause-err
 returns-in_err-map_err-clause-err c =
     let h : c.push.new.self.items ≡ c.self.inside.heads.items = grind (arith, common_steps) in
-    let p : c.extend_from_slice.new.self.items ≡ c.self.inside.parts.items ++ c.args.parts.now = grind (arith, common_steps) in
-    let e : nodes_of c.extend_from_slice.new.self.items c.push.new.self.items ≡ c.args.self.now =
-    ap₂ (λ x y. nodes_of x y) p h ∙ nodes_of-append _ _ _ c.self.invariant ∙ c.self.view_is in
+    let e : nodes_of c.extend.new.self c.push.new.self.items ≡ c.args.self.now =
+    ap₂ (λ x y. nodes_of x y) c.in_ok-extend.ensures.ok h ∙ nodes_of-append _ _ _ c.self.invariant ∙ c.self.view_is in
     on_err _ _ e
 
 pub returns-clause-ok : goal.returns-clause-ok
 returns-clause-ok c =
-    let more : List Head = c.self.inside.heads.items ++ record { slot = c.args.slot; from = c.len-from.result; count = length c.args.parts.now } ∷ [] in
+    let more : List Head = c.self.inside.heads.items ++ record { slot = c.args.slot; uses = 0; count = c.len.result - c.args.start; from = c.len-from.result } ∷ [] in
     let h : c.push.new.self.items ≡ more = grind (arith, common_steps) in
-    let p : c.extend_from_slice.new.self.items ≡ c.self.inside.parts.items ++ c.args.parts.now = grind (arith, common_steps) in
-    let f : c.len-from.result ≡ length c.self.inside.parts.items = search rules in
-    nodes_of-push _ _ _ _ _ _ _ _ _ c.self.view_is c.self.invariant f refl p h
+    let n : c.len.result - c.args.start ≡ length (drop c.args.start c.args.list.now) = omega (arith, c.len.ensures, length-drop c.args.start c.args.list.now) in
+    nodes_of-push _ _ _ _ _ _ _ _ _ _ c.self.view_is c.self.invariant c.len-from.ensures n c.in_ok-extend.ensures.ok h

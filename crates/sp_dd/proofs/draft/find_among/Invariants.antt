@@ -1,0 +1,7 @@
+use Rattle.std.proofs.Common.{ℕ, ◌<◌, ◌≢◌, drop}
+use Rattle.sp_dd.specs.NodeLists.{made_node}
+use Rattle.sp_dd.specs.Ordered.{node_at}
+use Rattle.sp_dd.proofs.draft.find_among.Given as goal
+
+abbrev pub invariant-loop-at : goal.invariant-loop-at
+invariant-loop-at l = (j : ℕ) → j < l.at → node_at l.nodes j ≢ made_node l.slot (drop l.start l.list)
