@@ -56,8 +56,3 @@ module _ (e : EditionParts) (w : Weights) (a joint : ℕ) where
   -- a single member is the link
   pub link_single : length e.members ≡ 1 → IsLinkAt e w a (point_of (sizes_of e.task.model.sights) joint) 0
   link_single one = best_link e w a (point_of (sizes_of e.task.model.sights) joint) 0 _ (best_last e score 0 1 _ (best_first e score (omega (arith, one)) (estimate_of e w a joint 0) refl) (omega (arith, one)))
-
-  -- the better one by its estimate, where the sums don't tell
-  pub chosen_by : (b : Bool) (next best then : ℕ) → b ≡ outdoes (estimate_of e w a joint next) (id_of e next) (estimate_of e w a joint best) (id_of e best) → then ≡ cond b next best
-      → then ≡ cond (outdoes (estimate_of e w a joint next) (id_of e next) (estimate_of e w a joint best) (id_of e best)) next best
-  chosen_by b next best then same is = is ∙ ap (λ (c : Bool). cond c next best) same

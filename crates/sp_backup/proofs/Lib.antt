@@ -23,3 +23,4 @@ pub mod RewardSums
 pub mod Assembled
 pub mod KeptLemmas
 pub mod PosteriorLists
+pub mod Listed

@@ -8,3 +8,4 @@ pub mod Posteriors
 pub mod Projections
 pub mod Trials
 pub mod Promises
+pub mod MemberTables

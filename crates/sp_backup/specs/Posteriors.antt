@@ -1,5 +1,5 @@
 -- What an action leads to, and the members at the next weights before scaling.
-use Rattle.std.specs.Prelude.{◌≡◌, List, ℕ, ◌^◌, ◌<◌, ◌≤◌, ℤ, pos, ◌≤ℤ◌, false, length, slice_index_or, unsigned_abs, IsTrue, IfSome}
+use Rattle.std.specs.Prelude.{◌≡◌, List, ℕ, ◌^◌, ◌<◌, ◌≤◌, ℤ, pos, ◌≤ℤ◌, false, None, length, slice_index_or, unsigned_abs, IsTrue, IfSome}
 use Rattle.sp_dd.specs.Func.{Func}
 use Rattle.sp_dd.specs.Operations.{state_total}
 use Rattle.sp_theory.specs.Points.{count_of, point_of}
@@ -14,6 +14,7 @@ use Rattle.sp_model.specs.Links.{weights_of}
 use Rattle.sp_belief.specs.Transfers.{HasWeights}
 use Rattle.sp_belief.specs.Updates.{unscaled_after}
 use Rattle.sp_value.specs.Editions.{EditionParts, no_member}
+use Rattle.sp_backup.specs.MemberTables.{IsNothingOr}
 use Rattle.sp_backup.specs.declared.posteriors.Posterior.{Posterior}
 use Rattle.sp_backup.specs.declared.posteriors.Successors.{Successors}
 use Rattle.sp_backup.specs.declared.linking.ScoredMember.{ScoredMember}
@@ -31,11 +32,12 @@ AreAlike p w a joint = constant_estimate p w a joint (least_return (problem p)) 
 pub record IsPosterior (p : Parts) (w : Func) (a joint : ℕ) (x : Posterior) : Type 0 where
   pub has : HasWeights p x.weights (unscaled_after p w a joint)
   pub few : state_total x.weights ≤ℤ pos (2 ^ 62)
+  pub listed : IsNothingOr x.list x.weights
   pub alike : IsTrue x.is_alike → AreAlike p w a joint
 
 -- what stands past the end of the posteriors
 abbrev pub no_posterior : Posterior
-no_posterior = record { weights = no_func; is_alike = false }
+no_posterior = record { weights = no_func; list = None; is_alike = false }
 
 -- the posteriors of the first n joint observations
 pub record ArePosteriors (p : Parts) (w : Func) (a n : ℕ) (xs : List Posterior) : Type 0 where

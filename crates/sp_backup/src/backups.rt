@@ -17,6 +17,7 @@ use crate::projections::{Kept, Projections};
 use crate::promises::pushed_trial;
 use crate::pulling::pulled_trial;
 use crate::setting::Setting;
+use crate::values::tables_for;
 use sp_dd::{Ids, NoMemory};
 use sp_model::Func;
 use sp_model::functions::dot;
@@ -71,9 +72,13 @@ fn best_trial(
     requires { belief < edition.now.task.options.beliefs }
     ensures { let w = weights_of edition.now.task.model (sampled_func edition.now.task belief) in IfOk result (λ t. IsTrial edition.now w (choice (problem edition.now.task.model) (members_in edition.now) w) t) }
 {
-    let setting = Setting::new(edition, edition.task().weights(belief), belief);
+    let _ = edition.members();
     let mut held = kept.take_for(alloc, edition)?;
+    let before = held.take_tables(alloc);
+    let tables = tables_for(alloc, edition, before)?;
+    let setting = Setting::new(edition, edition.task().weights(belief), &tables, belief);
     let found = trial_of(alloc, &setting, &mut held);
+    held.put_tables(tables);
     kept.put_back(held);
     found
 }

@@ -6,8 +6,9 @@ ghost use Rattle.sp_model.specs.Problem.{shape_of, sizes_of};
 ghost use Rattle.sp_model.specs.Links.{weights_of};
 ghost use Rattle.sp_value.specs.Editions.{IsVector};
 ghost use Rattle.sp_backup.specs.Posteriors.{AreSuccessors, estimate_of};
-ghost use Rattle.sp_backup.specs.Projections.{IsProjection};
+ghost use Rattle.sp_backup.specs.Projections.{IsProjection, AreEnds};
 
+use crate::ends::Ends;
 use crate::models::model_of;
 use crate::posteriors::Successors;
 use crate::projections::{Kept, Projection};
@@ -67,7 +68,7 @@ fn projection_of(
             return Ok(found);
         }
     }
-    Projection::new(alloc, model, member, action, joint)
+    Projection::new(alloc, model, &member.vector, action, joint)
 }
 
 /// Whether a projection is that of a member.
@@ -76,6 +77,30 @@ fn is_of(found: &Projection, member: &Member, action: u64, joint: u64) -> bool
     ensures { IsTrue result → (found.now.action ≡ action) × (found.now.joint ≡ joint) × (found.now.vector ≡ member.now.vector) }
 {
     found.action == action && found.joint == joint && found.vector.same(&member.vector)
+}
+
+/// The ends for an action and a joint observation, as they were kept or anew.
+pub(crate) fn ends_of(
+    alloc: Global,
+    kept: &mut Kept,
+    model: &Model,
+    action: u64,
+    joint: u64,
+) -> Result<Ends, NoMemory>
+    requires kept { kept.old ≡ model.now }
+    requires action { action < length model.now.actions }
+    requires joint { joint < count_of (sizes_of model.now.sights) }
+    ensures kept { kept.new ≡ kept.old }
+    ensures are { IfOk result (AreEnds model.now) }
+    ensures action { IfOk result (λ x. x.low.action ≡ action) }
+    ensures joint { IfOk result (λ x. x.low.joint ≡ joint) }
+{
+    if let Some(found) = kept.take_ends(action, joint) {
+        if found.low.action == action && found.low.joint == joint {
+            return Ok(found);
+        }
+    }
+    Ends::new(alloc, model, action, joint)
 }
 
 /// What an action makes of the weights, as it was kept or anew.
@@ -97,7 +122,13 @@ pub(crate) fn successors_of(
             return Ok(found);
         }
     }
-    Successors::new(alloc, model_of(setting.edition), setting.weights, action)
+    Successors::new(
+        alloc,
+        kept,
+        model_of(setting.edition),
+        setting.weights,
+        action,
+    )
 }
 
 /// Whether they are what an action makes of the weights.

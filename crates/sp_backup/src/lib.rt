@@ -7,6 +7,7 @@
 mod assembling;
 mod backups;
 mod choosing;
+mod ends;
 mod estimates;
 mod linking;
 mod models;
@@ -18,6 +19,7 @@ mod pulling;
 mod seeing;
 mod setting;
 mod stepping;
+mod values;
 
 pub use assembling::assemble;
 pub use backups::point_backup;

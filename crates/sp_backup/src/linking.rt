@@ -16,8 +16,8 @@ use crate::models::model_of;
 use crate::posteriors::{Posterior, Successors};
 use crate::projections::Kept;
 use crate::setting::Setting;
+use crate::values::listed_dot;
 use sp_dd::{Ids, NoMemory};
-use sp_model::functions::dot;
 use sp_value::is_better;
 use std::alloc::Global;
 
@@ -48,8 +48,9 @@ impl<'a> LinkSearch<'a> {
         ensures place { IfOk result (λ x. x.place ≡ place) }
         ensures is { let e = self.now.setting.now.edition.now in IfOk result (IsScoredMember e (weights_of e.task.model self.now.setting.now.weights.now) self.now.action self.now.joint) }
     {
-        let member = self.setting.edition.members().at(place);
-        let sum = dot(alloc, &self.posterior.weights, &member.vector)?;
+        let _ = self.setting.edition.members();
+        let member = self.setting.tables.at(place);
+        let sum = listed_dot(alloc, &self.posterior.weights, &self.posterior.list, member)?;
         Ok(ScoredMember {
             place,
             sum,

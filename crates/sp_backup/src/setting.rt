@@ -5,9 +5,11 @@ ghost use Rattle.sp_dd.specs.Func.{Everywhere};
 ghost use Rattle.sp_bounds.specs.Bounds.{slack, link_window as theory_link_window, whole_slack, action_window as theory_action_window};
 ghost use Rattle.sp_model.specs.Problem.{problem, shape_of};
 ghost use Rattle.sp_value.specs.Editions.{no_member};
+ghost use Rattle.sp_backup.specs.MemberTables.{AreMemberTables};
 ghost use Rattle.sp_backup.specs.Ranges.{AreAbove, AreBelow, AreBetween, IsLeastId, apart, farthest};
 
 use crate::models::model_of;
+use crate::values::MemberTables;
 use sp_model::functions::{greatest, least};
 use sp_model::{Model, Weights};
 use sp_value::Edition;
@@ -18,20 +20,29 @@ use sp_value::Edition;
 pub(crate) struct Setting<'a> {
     pub edition: &'a Edition,
     pub weights: &'a Weights,
+    /// The tables of the members.
+    pub tables: &'a MemberTables,
     /// The belief's number, by which it is looked up in what is kept.
     pub belief: u64,
     pub low: i128,
     pub high: i128,
     pub first: u64,
     ghost scope: { weights.now.shape ≡ shape_of edition.now.task.model },
+    ghost tables_are: { AreMemberTables edition.now (length edition.now.members) tables.now },
     ghost range: { AreBetween edition.now low high },
     ghost least_id: { IsLeastId edition.now first },
 }
 
 impl<'a> Setting<'a> {
     /// The setting of these. Takes no memory.
-    pub fn new(edition: &'a Edition, weights: &'a Weights, belief: u64) -> Setting<'a>
-        requires { weights.now.shape ≡ shape_of edition.now.task.model }
+    pub fn new(
+        edition: &'a Edition,
+        weights: &'a Weights,
+        tables: &'a MemberTables,
+        belief: u64,
+    ) -> Setting<'a>
+        requires scope { weights.now.shape ≡ shape_of edition.now.task.model }
+        requires tables { AreMemberTables edition.now (length edition.now.members) tables.now }
         ensures edition { result.edition.now ≡ edition.now }
         ensures weights { result.weights.now ≡ weights.now }
         ensures belief { result.belief ≡ belief }
@@ -42,6 +53,7 @@ impl<'a> Setting<'a> {
         Setting {
             edition,
             weights,
+            tables,
             belief,
             low,
             high,

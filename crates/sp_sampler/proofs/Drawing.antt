@@ -3,7 +3,7 @@ use Rattle.std.proofs.Common.{◌≡◌, ℕ, suc, ◌+◌, ◌%◌, ◌<◌, �
 use Rattle.std.specs.Prelude.{nat_lt, unwrap_or, slice_get, sum, sum_by, IsSome}
 use Rattle.std.specs.List.{range_with_len, find}
 use Rattle.std.proofs.lemmas.List.{take-take}
-use Rattle.std.proofs.lemmas.List.FromFn.{get_or-range_with_len, length-range_with_len, length-map-range_with_len, take-map-range_with_len, map-range_with_len_more}
+use Rattle.std.proofs.lemmas.List.FromFn.{get_or-range_with_len, length-range_with_len, length-map-range_with_len, take-map-range_with_len}
 use Rattle.std.proofs.lemmas.List.Sums.{sum-map, sum_by-take-le, sum_by_more, position_or_len_is}
 use Rattle.std.proofs.lemmas.List.Folds.{find_at}
 use Rattle.std.proofs.lemmas.Bool.{lt-ltb, le-ltb}
@@ -39,9 +39,6 @@ unfolding drawn_observation drawn_by
 drawn_same m v w a word agree = λ h. drawn_by (λ o. total_seen_same m v w a o agree h) (count_of m.sight_sizes) word
 
 -- ---- running totals
-pub totals_more : (f : ℕ → ℕ) (xs ys : List ℕ) (n i : ℕ) → xs ≡ map f (range_with_len 0 i) → n ≡ f i → ys ≡ xs ++ n ∷ [] → ys ≡ map f (range_with_len 0 (i + 1))
-totals_more f xs ys n i before here more = more ∙ (λ h. before h ++ here h ∷ []) ∙ sym (map-range_with_len_more f 0 i i (zero-add i))
-
 pub exceeds_here : (xs : List ℕ) (target running place : ℕ) → running ≡ sum (take place xs) → running ≤ target → place < length xs → target < running + get_or xs place 0 → Exceeds xs target place
 exceeds_here xs target running place is before within above =
     let more = ap (λ (n : ℕ). sum (take n xs)) (sym (add-one place)) ∙ sum_by_more (λ x. x) xs place 0 within in
@@ -91,6 +88,9 @@ module _ (m : Model) (w : Weights) (a : ℕ) (totals : List ℕ) (are : totals �
       (within, sym (ap (λ (o : Option ℕ). unwrap_or o 0) (ap (λ (n : ℕ). find (λ o. nat_lt (word % n) (running_total m w a (suc o))) (range_with_len 0 (count_of m.sight_sizes))) (sym sum-whole) ∙ found (total_seen m w a) (count_of m.sight_sizes) target place within before above)))
 
 -- ---- the totals of a model's observations, as the code has them
+pub slice_count : (p : Parts) (w : Func) (a : ℕ) (totals slice : List ℕ) → totals ≡ map (total_after p w a) (range_with_len 0 (count_of (sizes_of p.sights))) → slice ≡ totals → length slice ≡ count_of (sizes_of p.sights)
+slice_count p w a totals slice are same = ap length (same ∙ are) ∙ length-map-range_with_len (total_after p w a) 0 (count_of (sizes_of p.sights))
+
 module _ (p : Parts) (w : Func) (a : ℕ) (totals slice : List ℕ) (are : totals ≡ map (total_after p w a) (range_with_len 0 (count_of (sizes_of p.sights)))) (same : slice ≡ totals) (some : 0 < whole_total (problem p) (weights_of p w) a) where
   whole-is : sum slice ≡ whole_total (problem p) (weights_of p w) a
   unfolding problem

@@ -1,38 +1,61 @@
 //! One belief drawn from another.
 
-ghost use Rattle.std.specs.Prelude.{◌≡◌, ◌<◌, ◌≤◌, ◌+◌, sum, length, map, IfOk};
-ghost use Rattle.std.specs.List.{range_with_len};
+ghost use Rattle.std.specs.Prelude.{◌≡◌, ◌<◌, ◌≤◌, sum, length, IfOk};
 ghost use Rattle.sp_theory.specs.Points.{count_of};
 ghost use Rattle.sp_theory.specs.Samples.{whole_total};
 ghost use Rattle.sp_model.specs.Problem.{problem, sizes_of};
 ghost use Rattle.sp_model.specs.Links.{weights_of};
-ghost use Rattle.sp_belief.specs.Updates.{total_after};
+ghost use Rattle.sp_belief.specs.Tables.{AreActionTables};
 ghost use Rattle.sp_sampler.specs.Sampled.{IsDrawn, IsObserved};
+ghost use Rattle.sp_sampler.specs.Tables.{AreKeptTables};
 ghost use Rattle.sp_sampler.specs.Totals.{Exceeds};
 
-use sp_belief::{Carried, NextError};
-use sp_dd::{Ids, NoMemory};
+use crate::tables::{KeptTables, prepare};
+use sp_belief::{ActionTables, Carried, NextError};
+use sp_dd::NoMemory;
 use sp_model::{Model, Sample, Weights};
 use std::alloc::Global;
 
 /// The next belief after an action. The word draws the least joint observation at which the running total of the weights
-/// before scaling exceeds the word modulo the sum of all these totals.
+/// before scaling exceeds the word modulo the sum of all these totals. The tables of the action are kept.
 pub(crate) fn drawn(
     alloc: Global,
     model: &Model,
+    kept: &mut KeptTables,
     weights: &Weights,
     action: u64,
     word: u64,
 ) -> Result<Sample, NoMemory>
     requires scope { weights.now.shape ≡ model.now.scope }
+    requires kept { AreKeptTables model.now kept.old.items }
     requires action { action < length model.now.actions }
-    ensures { IfOk result (λ x. IsDrawn model.now weights.now action word x) }
+    ensures kept { IfOk result (λ x. AreKeptTables model.now kept.new.items) }
+    ensures drawn { IfOk result (λ x. IsDrawn model.now weights.now action word x) }
 {
-    let carried = Carried::new(alloc, model, weights, action)?;
-    let observation = observed(alloc, &carried, word)?;
+    prepare(alloc, model, kept, action)?;
+    match &kept[action as usize] {
+        Some(tables) => drawn_by(alloc, model, tables, weights, word),
+        None => unreachable!(),
+    }
+}
+
+/// The next belief after the action of these tables.
+fn drawn_by(
+    alloc: Global,
+    model: &Model,
+    tables: &ActionTables,
+    weights: &Weights,
+    word: u64,
+) -> Result<Sample, NoMemory>
+    requires scope { weights.now.shape ≡ model.now.scope }
+    requires tables { AreActionTables model.now tables.now }
+    ensures { IfOk result (λ x. IsDrawn model.now weights.now tables.now.action word x) }
+{
+    let carried = Carried::by(alloc, model, tables, weights)?;
+    let observation = observed(alloc, &carried, tables, word)?;
     match carried.next(alloc, observation) {
         Ok(weights) => Ok(Sample {
-            action,
+            action: tables.action,
             observation,
             weights,
         }),
@@ -42,14 +65,30 @@ pub(crate) fn drawn(
 }
 
 /// The joint observation that a word draws.
-fn observed(alloc: Global, carried: &Carried, word: u64) -> Result<u64, NoMemory>
+fn observed(
+    alloc: Global,
+    carried: &Carried,
+    tables: &ActionTables,
+    word: u64,
+) -> Result<u64, NoMemory>
+    requires tables { AreActionTables carried.now.model.now tables.now }
+    requires action { tables.now.action ≡ carried.now.action }
     ensures { IfOk result (λ o. IsObserved carried.now.model.now carried.now.weights.now carried.now.action word o) }
 {
-    let totals = totals_of(alloc, carried)?;
+    let totals = carried.totals(alloc, tables)?;
     something_is_seen(carried);
     let totals = totals.as_slice();
+    are_few(carried, totals);
     let target = word as u128 % sum_of(totals);
     Ok(first_above(totals, target))
+}
+
+/// There are as many totals as joint observations, so few.
+fn are_few(carried: &Carried, totals: &[u64])
+    requires { length totals.now ≡ count_of (sizes_of carried.now.model.now.sights) }
+    ensures { length totals.now ≤ 4096 }
+{
+    let _ = carried.model.joint_count();
 }
 
 /// Some joint observation can be drawn: the totals before scaling don't sum to 0.
@@ -59,18 +98,6 @@ fn something_is_seen(carried: &Carried)
     // what is known of each model and of weights
     let _ = carried.model.parts();
     let _ = carried.weights.func();
-}
-
-/// The totals before scaling, one for each joint observation.
-fn totals_of(alloc: Global, carried: &Carried) -> Result<Ids, NoMemory>
-    ensures value { IfOk result (λ totals. totals ≡ map (total_after carried.now.model.now carried.now.weights.now carried.now.action) (range_with_len 0 (count_of (sizes_of carried.now.model.now.sights)))) }
-    ensures few { IfOk result (λ totals. length totals ≤ 4096) }
-{
-    let mut totals = Ids::new(alloc);
-    for observation in 0..carried.model.joint_count() {
-        totals.push(carried.total(alloc, observation)?)?;
-    }
-    Ok(totals)
 }
 
 /// The sum of some totals.

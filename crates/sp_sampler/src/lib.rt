@@ -6,5 +6,6 @@
 
 mod draws;
 mod sampling;
+mod tables;
 
 pub use sampling::{sample, sample_with};

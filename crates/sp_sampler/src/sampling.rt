@@ -7,6 +7,7 @@ ghost use Rattle.sp_sampler.specs.Words.{first_words, left_after, seeded, word_a
 ghost use Rattle.sp_sampler.specs.Sampled.{AreSampled, StandAfter, parent_number};
 
 use crate::draws::drawn;
+use crate::tables::no_tables;
 use rand_core::{Rng, SeedableRng};
 use rand_pcg::Lcg128Xsl64;
 use sp_belief::initial;
@@ -62,6 +63,7 @@ pub fn sample_with<G: Rng>(
 {
     // what is known of each model
     let _ = model.parts();
+    let mut kept = no_tables(alloc, model)?;
     let mut list = SampleList::new(alloc);
     list.push(Sample {
         action: 0,
@@ -71,7 +73,7 @@ pub fn sample_with<G: Rng>(
     for k in 0..count - 1 {
         let (action, word) = draw(k % depth, model.action_count(), words, chooser);
         let parent = list.at(parent_of(k, depth));
-        let next = drawn(alloc, model, &parent.weights, action, word)?;
+        let next = drawn(alloc, model, &mut kept, &parent.weights, action, word)?;
         list.push(next)?;
     }
     Ok(Samples { list, depth })

@@ -1,16 +1,25 @@
-use Rattle.std.proofs.Common.{ap, ◌∙◌, subst}
+use Rattle.std.proofs.Common.{ap, sym, ◌∙◌, subst}
 use Rattle.std.specs.Prelude.{IfOk}
 use Rattle.sp_dd.specs.Func.{Func}
 use Rattle.sp_theory.specs.Backup.{choice}
+use Rattle.sp_model.specs.declared.parts.Parts.{Parts}
 use Rattle.sp_model.specs.Problem.{problem, shape_of}
 use Rattle.sp_model.specs.Links.{weights_of}
 use Rattle.sp_value.specs.Tasks.{TaskParts, sampled_func}
 use Rattle.sp_value.specs.Editions.{EditionParts, members_in}
+use Rattle.sp_backup.specs.MemberTables.{AreTables}
 use Rattle.sp_backup.specs.Trials.{IsTrial}
+use Rattle.sp_backup.proofs.Listed.{tables_shaped}
 use Rattle.sp_backup.proofs.backups.best_trial.Goals as goal
 
-pub new-setting-requires : goal.new-setting-requires
-new-setting-requires c = c.weights.ensures.shape ∙ ap (λ (t : TaskParts). shape_of t.model) (c.deref.ensures ∙ c.task.ensures)
+pub new-setting-requires-clause-scope : goal.new-setting-requires-clause-scope
+new-setting-requires-clause-scope c = c.weights.ensures.shape ∙ ap (λ (t : TaskParts). shape_of t.model) (c.deref.ensures ∙ c.task.ensures)
+
+pub put_tables-requires : goal.put_tables-requires
+put_tables-requires c =
+    let tables = c.in_ok-tables.tables in
+    subst (λ (p : Parts). AreTables (shape_of p) tables) (sym (c.trial_of-found.ensures.kept ∙ c.take_tables-before.ensures.same ∙ c.in_ok-held.ensures))
+    (tables_shaped c.args.edition.now c.members.ensures.known tables c.in_ok-tables.ensures)
 
 pub returns : goal.returns
 returns c =

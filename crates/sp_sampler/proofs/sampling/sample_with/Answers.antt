@@ -7,8 +7,11 @@ use Rattle.sp_sampler.proofs.sampling.sample_with.Given.{Over}
 use Rattle.sp_sampler.proofs.sampling.sample_with.Goals.{After-draw-action}
 use Rattle.sp_sampler.proofs.sampling.sample_with.Goals as goal
 
+pub returns-in_err-kept-clause-stopped : goal.returns-in_err-kept-clause-stopped
+returns-in_err-kept-clause-stopped g c = on_err c.from_residual.result _ (0, c.requires.some, stand_first _ _ _ _ _)
+
 pub returns-in_err-initial-clause-stopped : goal.returns-in_err-initial-clause-stopped
-returns-in_err-initial-clause-stopped g c = on_err c.from_residual.result _ (0, c.requires.some, stand_first _ _ _ _ _)
+returns-in_err-initial-clause-stopped g c = on_err c.from_residual-in_err-initial.result _ (0, c.requires.some, stand_first _ _ _ _ _)
 
 pub returns-in_err-push-clause-stopped : goal.returns-in_err-push-clause-stopped
 returns-in_err-push-clause-stopped g c = on_err c.from_residual-in_err-push.result _ (0, c.requires.some, stand_first _ _ _ _ _)
@@ -16,6 +19,7 @@ returns-in_err-push-clause-stopped g c = on_err c.from_residual-in_err-push.resu
 pub loop-k-init : goal.loop-k-init
 loop-k-init g c = record {
   stand = stand_first _ _ _ _ _;
+  kept = c.in_ok-kept.ensures;
   sampled = sampled_first _ c.parts.ensures.known _ _ _ _ c.in_ok-initial.ensures _ _ c.new-list.ensures c.in_ok-push.ensures.ok;
 }
 
@@ -50,11 +54,12 @@ loop-k-preserved g c =
     let draw = c.draw-action.ensures in
     record {
       stand = stands g (goal.at.loop-k-preserved g c).After-draw-action;
+      kept = c.in_ok-next.ensures.kept;
       sampled = sampled_more _ c.parts.ensures.known _ _ _ _ _ c.loop-k.invariant.sampled _ c.parent_of.ensures _ c.at-parent.ensures _ _
           (draw.action ∙ answer_is _ _ _ _ _ _ less _ _ stand _ c.action_count.ensures.value)
           (subst (λ (n : ℕ). c.draw-action.result.0 < n) c.action_count.ensures.value draw.below)
           (draw.word ∙ second_word _ _ _ _ _ _ less _ _ stand)
-          _ c.in_ok-next.ensures _ c.in_ok-push-2.ensures.ok;
+          _ c.in_ok-next.ensures.drawn _ c.in_ok-push-2.ensures.ok;
     }
 
 pub returns-clause-samples : goal.returns-clause-samples

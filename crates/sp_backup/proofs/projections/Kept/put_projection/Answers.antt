@@ -11,4 +11,6 @@ invariant_of-self c = record {
   projections =
       tried (IsProjection _) same.ghosts.eq c.self.inside.projections c.put.new.self (record { id = c.args.id; action = c.args.projection.action; joint = c.args.projection.joint }) c.args.projection c.put.result c.put.ensures.entries c.put.ensures.err c.self.invariant.projections
       (subst (λ (p : Parts). IsProjection p c.args.projection) (sym c.self.view_is) c.requires);
+  ends = c.self.invariant.ends;
+  tables = c.self.invariant.tables;
 }

@@ -11,4 +11,6 @@ invariant_of-self c = record {
       tried (AreSuccessors _) same.ghosts.eq c.self.inside.successors c.put.new.self (record { belief = c.args.belief; action = c.args.successors.action }) c.args.successors c.put.result c.put.ensures.entries c.put.ensures.err c.self.invariant.successors
       (subst (λ (p : Parts). AreSuccessors p c.args.successors) (sym c.self.view_is) c.requires);
   projections = c.self.invariant.projections;
+  ends = c.self.invariant.ends;
+  tables = c.self.invariant.tables;
 }

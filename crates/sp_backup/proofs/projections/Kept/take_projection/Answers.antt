@@ -11,6 +11,8 @@ pub invariant_of-self : goal.invariant_of-self
 invariant_of-self c = record {
   successors = c.self.invariant.successors;
   projections = removed (IsProjection _) _ _ _ (ap (λ (x : LruCache Triple Projection). x.entries) c.pop.ensures.entries) c.self.invariant.projections;
+  ends = c.self.invariant.ends;
+  tables = c.self.invariant.tables;
 }
 
 pub returns-clause-is : goal.returns-clause-is

@@ -11,6 +11,8 @@ pub invariant_of-self : goal.invariant_of-self
 invariant_of-self c = record {
   successors = removed (AreSuccessors _) _ _ _ (ap (λ (x : LruCache Pair Successors). x.entries) c.pop-taken.ensures.entries) c.self.invariant.successors;
   projections = c.self.invariant.projections;
+  ends = c.self.invariant.ends;
+  tables = c.self.invariant.tables;
 }
 
 pub returns-clause-are : goal.returns-clause-are

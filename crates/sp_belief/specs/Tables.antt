@@ -1,0 +1,33 @@
+-- The tables of an action, made ready for all weights.
+use Rattle.std.specs.Prelude.{◌≡◌, ◌==◌, ◌+◌, ◌*◌, ◌<◌, ℕ, List, [], length, get_or, slice_index, slice_index_or}
+use Rattle.sp_dd.specs.Func.{Func}
+use Rattle.sp_dd.specs.Operations.{restricted}
+use Rattle.sp_model.specs.declared.parts.Parts.{Parts}
+use Rattle.sp_model.specs.Problem.{no_func, sizes_of, sight_of, problem}
+use Rattle.sp_belief.specs.declared.tables.ActionTables.{ActionTables}
+use Rattle.sp_belief.specs.Progress.{goes}
+
+-- a variable is summed out at that table, and at no other one
+abbrev pub IsLastTable : Parts → ℕ → ℕ → ℕ → Type 0
+IsLastTable p a v last = (table : ℕ) → table < length p.variables → goes (problem p) a table v ≡ (last == table)
+
+-- the tables at which the first n variables are summed out
+pub record AreLastTables (p : Parts) (a n : ℕ) (last : List ℕ) : Type 0 where
+  pub count : length last ≡ n
+  pub each : (v : ℕ) → v < n → IsLastTable p a v (slice_index last v)
+
+-- the table of observation variable j at its first n values
+pub record AreChances (p : Parts) (a j n : ℕ) (fs : List Func) : Type 0 where
+  pub count : length fs ≡ n
+  pub each : (v : ℕ) → v < n → slice_index_or fs v no_func ≡ restricted (sight_of p a j) (2 * length p.variables + j) v
+
+-- the tables of the first n observation variables at all their values
+pub record AreChanceLists (p : Parts) (a n : ℕ) (lists : List (List Func)) : Type 0 where
+  pub count : length lists ≡ n
+  pub each : (j : ℕ) → j < n → AreChances p a j (get_or (sizes_of p.sights) j 0) (slice_index_or lists j [])
+
+-- they are the tables of their action
+pub record AreActionTables (p : Parts) (x : ActionTables) : Type 0 where
+  pub known : x.action < length p.actions
+  pub last : AreLastTables p x.action (length p.variables) x.last
+  pub chances : AreChanceLists p x.action (length p.sights) x.chances
