@@ -14,6 +14,7 @@ pub mod Preparing
 pub mod PairLists
 pub mod PrunedLedgers
 pub mod DominatedPairs
+pub mod Lists
 pub mod Leaf
 pub mod NextWork
 pub mod Picked

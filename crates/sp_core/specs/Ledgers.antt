@@ -30,7 +30,7 @@ pub record Contents : Type 0 where
 -- the contents of a ledger
 abbrev pub contents : Ledger → Contents
 contents l = record {
-  task = arc_value l.task;
+  task = l.task;
   events = events_of l.events.items;
   editions = map arc_value l.editions.items;
   records = l.records;

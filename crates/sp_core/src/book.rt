@@ -40,7 +40,7 @@ impl Book {
     ghost use Rattle.sp_core.specs.Marks.{marks_of};
     ghost use Rattle.sp_core.specs.Opening.{first_parts};
     ghost use Rattle.sp_core.specs.Pruning.{AreDominatedIn, IsPruned, RefusesPrune};
-    ghost use Rattle.sp_core.specs.Settling.{IsSettled, RefusesSettle};
+    ghost use Rattle.sp_core.specs.Settling.{IsOurs, IsSettled, RefusesSettle};
 
     /// The book of a task before any event. Later calls take their memory from `alloc`.
     pub fn begin(alloc: Global, task: Arc<Task>) -> Result<Book, NoMemory>
@@ -55,7 +55,7 @@ impl Book {
         ensures value { arc_value result.now ≡ self.now.task }
         ensures known { IsBook self.now }
     {
-        &self.ledger.task
+        self.ledger.task.task()
     }
 
     /// Whether the run is over. Takes no memory.
@@ -120,6 +120,16 @@ impl Book {
         self.ledger.settle(candidate)
     }
 
+    /// `settle` for a candidate whose base is this book's edition of that number, as its latest edition is: nothing is compared.
+    pub fn settle_ours(&mut self, candidate: Candidate) -> Result<Settled, SettleError>
+        requires { IsOurs self.old candidate.base }
+        ensures ok { IfOk result (λ answer. IsSettled self.old candidate answer self.new) }
+        ensures err { IfErr result (RefusesSettle self.old candidate) }
+        ensures unchanged { OnErr result (self.new ≡ self.old) }
+    {
+        self.ledger.settle_ours(candidate)
+    }
+
     /// Of each pair of ids the first leaves the latest edition, in order, where both are still present: one step of the book, or
     /// none. All memory is taken first.
     pub fn prune(&mut self, base: &Arc<Edition>, pairs: &Pairs) -> Result<Pruned, PruneError>
@@ -131,6 +141,17 @@ impl Book {
         self.ledger.prune(base, pairs)
     }
 
+    /// `prune` where the base is this book's edition of that number, as its latest edition is: nothing is compared.
+    pub fn prune_ours(&mut self, base: &Arc<Edition>, pairs: &Pairs) -> Result<Pruned, PruneError>
+        requires ours { IsOurs self.old (arc_value base.now) }
+        requires pairs { AreDominatedIn (arc_value base.now) pairs.now }
+        ensures ok { IfOk result (λ answer. IsPruned self.old (arc_value base.now) pairs.now answer self.new) }
+        ensures err { IfErr result (RefusesPrune self.old (arc_value base.now)) }
+        ensures unchanged { OnErr result (self.new ≡ self.old) }
+    {
+        self.ledger.prune_ours(base, pairs)
+    }
+
     /// The run, where it is over; else the book. Takes no memory.
     pub fn into_run(self) -> Result<Run, Book>
         ensures { MatchResult result (λ run. ((state_of self).done ≡ true) × (arc_value run.task ≡ self.task) × (events_of run.events ≡ self.history)) (λ book. ((state_of self).done ≡ false) × (book ≡ self)) }
@@ -139,7 +160,7 @@ impl Book {
             return Err(self);
         }
         Ok(Run {
-            task: self.ledger.task,
+            task: self.ledger.task.into_task(),
             events: Sequence::from_vec(self.ledger.events),
         })
     }

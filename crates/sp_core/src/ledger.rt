@@ -4,7 +4,8 @@ ghost use Rattle.std.specs.Prelude.{◌≡◌, ◌+◌, ◌<◌, ◌≤◌, opti
 ghost use Rattle.std.specs.Arc.{arc_value};
 
 use crate::flags::{lift, raise};
-use sp_value::{Edition, Event, Member, Task};
+use crate::listed::ListedTask;
+use sp_value::{Edition, Event, Member};
 use std::alloc::Global;
 use std::mem;
 use std::sync::Arc;
@@ -13,7 +14,7 @@ use std::sync::Arc;
 #[derive(Drop)]
 pub(crate) struct Ledger {
     pub(crate) alloc: Global,
-    pub(crate) task: Arc<Task>,
+    pub(crate) task: ListedTask,
     pub(crate) events: Vec<Event>,
     pub(crate) editions: Vec<Arc<Edition>>,
     /// How many records there are.

@@ -10,6 +10,7 @@ mod book;
 mod flags;
 mod laws;
 mod ledger;
+mod listed;
 mod members;
 mod opening;
 mod picking;

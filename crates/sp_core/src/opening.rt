@@ -6,6 +6,7 @@ ghost use Rattle.sp_value.specs.Editions.{IsMemberOf};
 ghost use Rattle.sp_core.specs.Opening.{first_edition, first_member};
 
 use crate::ledger::Ledger;
+use crate::listed::ListedTask;
 use crate::members::shared_edition;
 use crate::worths::weigh;
 use sp_dd::NoMemory;
@@ -82,8 +83,9 @@ impl Ledger {
         let stages_left = task.options().stages;
         let member = leaf(alloc, &task)?;
         let mut latest_values = values(alloc, beliefs)?;
+        let task = ListedTask::new(alloc, task)?;
         weigh(alloc, &task, &member.vector, latest_values.as_mut_slice())?;
-        let edition = first(alloc, &task, member)?;
+        let edition = first(alloc, task.task(), member)?;
         let improved = flags(alloc, beliefs)?;
         let taken = flags(alloc, beliefs)?;
         let grown_values = values(alloc, beliefs)?;

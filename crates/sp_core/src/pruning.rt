@@ -43,7 +43,7 @@ impl Ledger {
         let latest = &self.editions[self.editions.len() - 1];
         let members = left(self.alloc, latest.members().as_slice(), pairs)?;
         let number = self.editions.len() as u64;
-        let edition = shared_edition(self.alloc, number, &self.task, members)?;
+        let edition = shared_edition(self.alloc, number, self.task.task(), members)?;
         Ok(edition)
     }
 
@@ -75,9 +75,14 @@ impl Ledger {
         }
     }
 
-    /// One step of the book, or none.
-    pub(crate) fn prune(&mut self, base: &Arc<Edition>, pairs: &Pairs) -> Result<Pruned, PruneError>
+    /// One step of the book, or none, for pairs of an edition of this book.
+    pub(crate) fn prune_ours(
+        &mut self,
+        base: &Arc<Edition>,
+        pairs: &Pairs,
+    ) -> Result<Pruned, PruneError>
         requires ledger { IsLedger (contents self.old) }
+        requires ours { IsOurs (parts_in (contents self.old)) (arc_value base.now) }
         requires pairs { AreDominatedIn (arc_value base.now) pairs.now }
         ensures ledger { IsLedger (contents self.new) }
         ensures ok { IfOk result (λ answer. IsPruned (parts_in (contents self.old)) (arc_value base.now) pairs.now answer (parts_in (contents self.new))) }
@@ -86,9 +91,6 @@ impl Ledger {
     {
         if self.done {
             return Ok(Pruned::Over);
-        }
-        if !self.has(base) {
-            return Err(self.not_ours(base));
         }
         let found = match self.applying(pairs) {
             Ok(found) => found,
@@ -105,5 +107,23 @@ impl Ledger {
             }
             Err(_) => Err(PruneError::NoMemory),
         }
+    }
+
+    /// One step of the book, or none.
+    pub(crate) fn prune(&mut self, base: &Arc<Edition>, pairs: &Pairs) -> Result<Pruned, PruneError>
+        requires ledger { IsLedger (contents self.old) }
+        requires pairs { AreDominatedIn (arc_value base.now) pairs.now }
+        ensures ledger { IsLedger (contents self.new) }
+        ensures ok { IfOk result (λ answer. IsPruned (parts_in (contents self.old)) (arc_value base.now) pairs.now answer (parts_in (contents self.new))) }
+        ensures err { IfErr result (RefusesPrune (parts_in (contents self.old)) (arc_value base.now)) }
+        ensures unchanged { OnErr result (parts_in (contents self.new) ≡ parts_in (contents self.old)) }
+    {
+        if self.done {
+            return Ok(Pruned::Over);
+        }
+        if !self.has(base) {
+            return Err(self.not_ours(base));
+        }
+        self.prune_ours(base, pairs)
     }
 }

@@ -68,7 +68,7 @@ impl Ledger {
         let belief = candidate.belief() as usize;
         let worth = worth(
             self.alloc,
-            &self.task,
+            self.task.task(),
             candidate.belief(),
             candidate.vector(),
         )?;
@@ -110,7 +110,7 @@ impl Ledger {
         }
         let members = with_one_more(self.alloc, &self.grown, id, action, vector)?;
         let number = self.editions.len() as u64;
-        let edition = shared_edition(self.alloc, number, &self.task, members)?;
+        let edition = shared_edition(self.alloc, number, self.task.task(), members)?;
         Ok(Some(edition))
     }
 
@@ -147,6 +147,24 @@ impl Ledger {
         }
     }
 
+    /// One step of the book, or none, for a candidate on an edition of this book.
+    pub(crate) fn settle_ours(&mut self, candidate: Candidate) -> Result<Settled, SettleError>
+        requires ledger { IsLedger (contents self.old) }
+        requires ours { IsOurs (parts_in (contents self.old)) candidate.base }
+        ensures ledger { IsLedger (contents self.new) }
+        ensures ok { IfOk result (λ answer. IsSettled (parts_in (contents self.old)) candidate answer (parts_in (contents self.new))) }
+        ensures err { IfErr result (RefusesSettle (parts_in (contents self.old)) candidate) }
+        ensures unchanged { OnErr result (parts_in (contents self.new) ≡ parts_in (contents self.old)) }
+    {
+        if self.done {
+            return Ok(Settled::Over);
+        }
+        match self.prepare(&candidate) {
+            Ok(plan) => Ok(self.commit(candidate, plan)),
+            Err(_) => Err(SettleError::NoMemory { candidate }),
+        }
+    }
+
     /// One step of the book, or none.
     pub(crate) fn settle(&mut self, candidate: Candidate) -> Result<Settled, SettleError>
         requires { IsLedger (contents self.old) }
@@ -164,9 +182,6 @@ impl Ledger {
                 Err(_) => SettleError::NoMemory { candidate },
             });
         }
-        match self.prepare(&candidate) {
-            Ok(plan) => Ok(self.commit(candidate, plan)),
-            Err(_) => Err(SettleError::NoMemory { candidate }),
-        }
+        self.settle_ours(candidate)
     }
 }

@@ -1,27 +1,28 @@
 -- The finished run of one thread.
-use Rattle.std.proofs.Common.{◌≡◌, ◌∙◌, sym, ap, subst, arith, ℕ, ◌*◌, ◌<◌, ◌≤◌, List, length, Bool, true, false}
+use Rattle.std.proofs.Common.{◌≡◌, ◌∙◌, sym, ap, refl, subst, arith, ℕ, zero, suc, ◌*◌, ◌<◌, ◌≤◌, List, length, get_or, replicate, Bool, true, false}
+use Rattle.std.proofs.Math.Nat.{mul-le-mul_left}
 use Rattle.std.proofs.lemmas.List.FromFn.{length-map-range_with_len}
-use Rattle.rand_core.specs.Stream.{Stream}
-use Rattle.sp_theory.specs.Book.{opening}
+use Rattle.sp_theory.specs.Book.{Event, opening}
 use Rattle.sp_theory.specs.Runs.{replay}
 use Rattle.sp_theory.specs.OneThread.{one_thread}
 use Rattle.sp_theory.proofs.OneThread.{prompt_from_opening}
-use Rattle.sp_theory.proofs.Ends.{one_thread_ends}
+use Rattle.sp_theory.proofs.Ends.{one_thread_ends, one_thread_completes}
 use Rattle.sp_theory.proofs.Prompt.{stages_published}
 use Rattle.sp_theory.proofs.Sound.{sound_opening}
 use Rattle.sp_theory.proofs.Tidy.{tidy_opening}
 use Rattle.sp_theory.proofs.SoundRuns.{run_is_sound}
 use Rattle.sp_theory.proofs.RecordedBackups.{all_close}
-use Rattle.sp_model.specs.declared.parts.Parts.{Parts}
 use Rattle.sp_model.proofs.RowLaw.{problem_lawful}
 use Rattle.sp_value.specs.declared.tasks.Options.{Options}
 use Rattle.sp_value.specs.Tasks.{TaskParts, IsTask, task_of}
-use Rattle.sp_choose.specs.Machines.{Machine}
-use Rattle.sp_core.specs.Books.{BookParts, state_of}
-use Rattle.sp_sampler.specs.Words.{word_at, first_words, seeded}
-use Rattle.sp_planner.specs.Planned.{next_seed, picking_words, IsTaskFor, IsTrusted, IsPlanned}
-use Rattle.sp_planner.specs.Turns.{IsUnderWay}
-use Rattle.sp_planner.proofs.Running.{run_last}
+use Rattle.sp_core.specs.Books.{BookParts, IsBook, state_of}
+use Rattle.sp_core.specs.Marks.{marks_of}
+use Rattle.sp_core.specs.Opening.{first_parts}
+use Rattle.sp_sampler.specs.Words.{word_at, seeded}
+use Rattle.sp_planner.specs.Laws.{FinishedBooksArePlanned}
+use Rattle.sp_planner.specs.Planned.{next_seed, picking_words, IsTrusted, IsPlanned}
+use Rattle.sp_planner.specs.Turns.{IsRun}
+use Rattle.sp_planner.proofs.SameMarks.{one_thread_same}
 
 -- what one thread plans may be trusted, with words enough
 trusted : (t : TaskParts) → IsTask t → (pruning : Bool) (words : List ℕ) → t.options.beliefs * t.options.stages ≤ length words
@@ -41,23 +42,40 @@ trusted t is pruning words enough =
       published = (stages_published (task_of t) events legal.0 prompt).1 legal.1;
     }
 
-module _ (p : Parts) (o : Options) (chooser : Machine) (t : TaskParts) (is : IsTaskFor p o chooser t) (words : Stream) (drawn : words ≡ seeded (next_seed o.seed)) (b : BookParts) (left : Stream) (run : IsUnderWay t (o.beliefs * o.stages) words (o.beliefs * o.stages) b left) where
-  events_are : b.history ≡ one_thread (task_of t) o.prune (opening (task_of t)) (λ k. false) (picking_words o)
-  events_are =
-      run_last t (o.beliefs * o.stages) words b left run
-      ∙ (λ h. one_thread (task_of t) (is.options h).prune (opening (task_of t)) (λ k. false) (first_words (o.beliefs * o.stages) (drawn h)))
+-- as many words as are drawn
+enough_words : (o : Options) → o.beliefs * o.stages ≤ length (picking_words o)
+enough_words o = let long = length-map-range_with_len (word_at (seeded (next_seed o.seed))) 0 (o.beliefs * o.stages) in omega (arith, long)
 
-  enough : t.options.beliefs * t.options.stages ≤ length (picking_words o)
-  enough =
-      let long = length-map-range_with_len (word_at (seeded (next_seed o.seed))) 0 (o.beliefs * o.stages) in
-      let same = ap (λ (x : Options). x.beliefs * x.stages) is.options in
-      omega (arith, long, same)
+marks_down : (m j : ℕ) → get_or (replicate m false) j false ≡ false
+marks_down zero j = refl
+marks_down (suc m) zero = refl
+marks_down (suc m) (suc j) = marks_down m j
 
-  may_be_trusted : IsTrusted (task_of t) b.history
-  may_be_trusted = subst (IsTrusted (task_of t)) (sym events_are) (trusted t is.is_task o.prune (picking_words o) enough)
+-- from the opening book on
+events_opened : (t : TaskParts) (o : Options) (d : BookParts) → IsRun o.prune (first_parts t) (picking_words o) d → d.history ≡ one_thread (task_of t) o.prune (opening (task_of t)) (λ k. false) (picking_words o)
+unfolding replay
+events_opened t o d run =
+    run.history ∙ one_thread_same (task_of t) o.prune (opening (task_of t)) (marks_of (replicate t.options.beliefs false)) (λ k. false) (λ k less. marks_down t.options.beliefs k) (picking_words o)
 
-  pub run_planned : IsPlanned p o chooser b.task b.history
-  run_planned = subst (λ (u : TaskParts). IsPlanned p o chooser u b.history) (sym run.task) (record { task = is; run = events_are; trusted = may_be_trusted })
+pub opened_planned : FinishedBooksArePlanned
+opened_planned p o chooser b d is first run =
+    let t = b.task in
+    let from : IsRun o.prune (first_parts t) (picking_words o) d = subst (λ (x : BookParts). IsRun o.prune x (picking_words o) d) first run in
+    let events = events_opened t o d from in
+    let enough : t.options.beliefs * t.options.stages ≤ length (picking_words o) = let most = enough_words o in let same = ap (λ (x : Options). x.beliefs * x.stages) is.options in omega (arith, most, same) in
+    let may : IsTrusted (task_of t) d.history = subst (IsTrusted (task_of t)) (sym events) (trusted t is.is_task o.prune (picking_words o) enough) in
+    subst (λ (u : TaskParts). IsPlanned p o chooser u d.history) (sym run.task) (record { task = is; run = events; trusted = may })
 
-  pub run_done : (state_of b).done ≡ true
-  run_done = subst (λ (u : TaskParts). (replay (task_of u) (opening (task_of u)) b.history).done ≡ true) (sym run.task) may_be_trusted.legal.1
+-- a book that was planned to its end is done
+pub run_done : (pruning : Bool) (b d : BookParts) → IsBook b → IsRun pruning b (picking_words b.task.options) d → (state_of d).done ≡ true
+run_done pruning b d is run =
+    let t = b.task in
+    let lawful = problem_lawful t.model is.task.model in
+    let some : 0 < t.options.beliefs = let least = is.task.some_beliefs in omega (arith, least) in
+    let counted = (stages_published (task_of t) b.history is.history is.prompt).0 in
+    let most : t.options.beliefs * (state_of b).stages_left ≤ t.options.beliefs * t.options.stages = mul-le-mul_left t.options.beliefs (omega (arith, counted)) in
+    let long = enough_words t.options in
+    let legal = one_thread_completes (task_of t) lawful some b.history is.history is.turns pruning (marks_of b.taken) (picking_words t.options) (omega (arith, most, long)) in
+    ap (λ (u : TaskParts). (replay (task_of u) (opening (task_of u)) d.history).done) run.task
+    ∙ ap (λ (es : List Event). (replay (task_of t) (opening (task_of t)) es).done) run.history
+    ∙ legal.1

@@ -3,7 +3,11 @@ pub mod Due
 pub mod Backing
 pub mod Turning
 pub mod Running
+pub mod Pausing
 pub mod Pruning
 pub mod Finished
 pub mod Totals
 pub mod Numbers
+pub mod Opening
+pub mod Later
+pub mod Stepping

@@ -30,13 +30,12 @@ module _ (b : BookParts) (answer : Pruned) (d : BookParts) where
   by_pairs [] (nothing, same) = record { task = ap (λ (x : BookParts). x.task) same; history = ap (λ (x : BookParts). x.history) same ∙ sym (append-nil b.history); taken = ap (λ (x : BookParts). x.taken) same }
   by_pairs (pair ∷ pairs) (dropped, by) = record { task = by.task; history = by.history; taken = by.taken }
 
-  module _ (is : IsBook b) (base : EditionParts) (last : slice_get b.editions (length b.editions - 1) ≡ Some base) (going : (state_of b).done ≡ false) (asked : b.task.options.prune ≡ true) where
-    pub is_pruning : (pairs : List (ℕ × ℕ)) → pairs ≡ dominated (problem base.task.model) (members_in base) → IsPruned b base pairs answer d → IsPruning b d
+  module _ (is : IsBook b) (base : EditionParts) (last : slice_get b.editions (length b.editions - 1) ≡ Some base) (going : (state_of b).done ≡ false) where
+    pub is_pruning : (pairs : List (ℕ × ℕ)) → pairs ≡ dominated (problem base.task.model) (members_in base) → IsPruned b base pairs answer d → IsPruning true b d
     unfolding pruning_events
     is_pruning pairs are by =
-        let due : (pruning_events (task_of b.task) (state_of b)) ≡ prune_due b =
-        ap (λ (c : Bool). cond c (pruning_events (task_of b.task) (state_of b)) []) (sym asked)
-        ∙ ap (λ (c : Bool). cond c [] (cond b.task.options.prune (pruning_events (task_of b.task) (state_of b)) [])) (sym going) in
+        let due : (pruning_events (task_of b.task) (state_of b)) ≡ prune_due true b =
+        ap (λ (c : Bool). cond c [] (pruning_events (task_of b.task) (state_of b))) (sym going) in
         let same = are
         ∙ ap (λ (t : TaskParts). dominated (problem t.model) (members_in base)) (latest_task b is base last)
         ∙ dominated_same (problem b.task.model) (members_in base) (state_of b).latest (latest_agrees b is base last) in

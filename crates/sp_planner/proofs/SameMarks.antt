@@ -15,11 +15,11 @@ module _ (t : Task) (pruning : Bool) where
     unfolding picked open_beliefs
     picked_same = ap (λ (fresh : List ℕ). let open_now = cond (eqb (length fresh) 0) (unmarked t b.improved) fresh in get_or open_now (word % length open_now) 0) fresh_same
 
-    turn_same : turn t pruning b m word ≡ turn t pruning b n word
+    pub turn_same : turn t pruning b m word ≡ turn t pruning b n word
     unfolding turn
     turn_same = ap (λ (k : ℕ). settled_at t b k ∷ due_events t pruning (after_event t b (settled_at t b k))) picked_same
 
-    after_same : MarksAgree t (marks_after t b m word) (marks_after t b n word)
+    pub after_same : MarksAgree t (marks_after t b m word) (marks_after t b n word)
     unfolding marks_after
     after_same j less = ap (λ (k : ℕ). cond {A = Marks} (all_improved t (after_event t b (settled_at t b k))) (λ (i : ℕ). false) (λ (i : ℕ). eqb i k || m i) j) picked_same ∙ by_test (all_improved t (after_event t b (settled_at t b (picked t b n word))))
       where

@@ -29,7 +29,7 @@ marked taken k j less = by_test (eqb_tells j k)
     by_test (inl (e, same)) = get_or-set_at taken k j true false same less ∙ ap (λ (c : Bool). c || get_or taken j false) (sym e)
     by_test (inr (e, differ)) = get_or-set_other taken k j true false differ ∙ ap (λ (c : Bool). c || get_or taken j false) (sym e)
 
-module _ (b : BookParts) (is : IsBook b) (going : (state_of b).done ≡ false) (word : ℕ) (below : picked_of b word < b.task.options.beliefs) (d : BookParts) (backed : IsBackedUp (with_taken b word) (picked_of b word) d) where
+module _ (pruning : Bool) (b : BookParts) (is : IsBook b) (going : (state_of b).done ≡ false) (word : ℕ) (below : picked_of b word < b.task.options.beliefs) (d : BookParts) (backed : IsBackedUp (with_taken b word) (picked_of b word) d) where
   marks_are : MarksAgree (task_of b.task) (marks_of d.taken) (marks_after (task_of b.task) (state_of b) (marks_of b.taken) word)
   unfolding marks_after
   marks_are j less = ap (λ (marks : List Bool). get_or marks j false) backed.taken ∙ by_test (publishes b (picked_of b word))
@@ -42,14 +42,14 @@ module _ (b : BookParts) (is : IsBook b) (going : (state_of b).done ≡ false) (
       by_test false = marked b.taken (picked_of b word) j (subst (λ (n : ℕ). picked_of b word < n) (sym is.taken) below)
 
   -- where no publication is due
-  pub turned_silently : publishes b (picked_of b word) ≡ false → IsTurned b word d
+  pub turned_silently : publishes b (picked_of b word) ≡ false → IsTurned pruning b word d
   unfolding turn
   turned_silently down = record {
     task = backed.task;
     history =
         backed.history
         ∙ ap (λ (due : List Event). b.history ++ settled_at (task_of b.task) (state_of b) (picked_of b word) ∷ due)
-        (none_due (task_of b.task) (settled_state b (picked_of b word)) false down ∙ sym (none_due (task_of b.task) (settled_state b (picked_of b word)) b.task.options.prune down));
+        (none_due (task_of b.task) (settled_state b (picked_of b word)) false down ∙ sym (none_due (task_of b.task) (settled_state b (picked_of b word)) pruning down));
     taken = marks_are;
   }
 
@@ -60,7 +60,7 @@ module _ (b : BookParts) (is : IsBook b) (going : (state_of b).done ≡ false) (
       (λ h. replay (task_of (backed.task h)) (opening (task_of (backed.task h))) (backed.history h))
       ∙ replay-append (task_of b.task) (opening (task_of b.task)) b.history (settled_at (task_of b.task) (state_of b) (picked_of b word) ∷ due_events (task_of b.task) false (settled_state b (picked_of b word)))
 
-  pub turned_with_prune : publishes b (picked_of b word) ≡ true → (e : BookParts) → IsPruning d e → IsTurned b word e
+  pub turned_with_prune : publishes b (picked_of b word) ≡ true → (e : BookParts) → IsPruning pruning d e → IsTurned pruning b word e
   unfolding turn
   turned_with_prune up e pruned = record {
     task = pruned.task ∙ backed.task;
@@ -68,12 +68,12 @@ module _ (b : BookParts) (is : IsBook b) (going : (state_of b).done ≡ false) (
         pruned.history ∙ (λ h. backed.history h ++ due_now h)
         ∙ append_assoc b.history (settled_at (task_of b.task) (state_of b) (picked_of b word) ∷ due_events (task_of b.task) false (settled_state b (picked_of b word))) _
         ∙ ap (λ (due : List Event). b.history ++ settled_at (task_of b.task) (state_of b) (picked_of b word) ∷ due)
-        (due_with_prune (task_of b.task) (settled_state b (picked_of b word)) b.task.options.prune (settled_done (task_of b.task) (state_of b) (picked_of b word) ∙ going) up);
+        (due_with_prune (task_of b.task) (settled_state b (picked_of b word)) pruning (settled_done (task_of b.task) (state_of b) (picked_of b word) ∙ going) up);
     taken = λ j less. ap (λ (marks : List Bool). get_or marks j false) pruned.taken ∙ marks_are j less;
   }
     where
-      due_now : prune_due d ≡ prune_after (task_of b.task) (settled_state b (picked_of b word)) b.task.options.prune (replay (task_of b.task) (settled_state b (picked_of b word)) (due_events (task_of b.task) false (settled_state b (picked_of b word))))
-      due_now = λ h. prune_after (task_of (backed.task h)) (settled_state b (picked_of b word)) (backed.task h).options.prune (state_is h)
+      due_now : prune_due pruning d ≡ prune_after (task_of b.task) (settled_state b (picked_of b word)) pruning (replay (task_of b.task) (settled_state b (picked_of b word)) (due_events (task_of b.task) false (settled_state b (picked_of b word))))
+      due_now = λ h. prune_after (task_of (backed.task h)) (settled_state b (picked_of b word)) pruning (state_is h)
 
 -- ---- as the code does it
 -- what is picked, where the run isn't over
@@ -81,7 +81,7 @@ given : (c : Bool) (k p : ℕ) → Some k ≡ cond c None (Some p) → (c ≡ fa
 given true k p e = absurd (cc)
 given false k p e = (refl, cc)
 
-module _ (b : BookParts) (is : IsBook b) (word k : ℕ) (answer : Some k ≡ cond (state_of b).done None (Some (picked_of b word))) (below : k < b.task.options.beliefs) (w : BookParts) (taken : w ≡ cond (state_of b).done b (with_taken b word)) (d : BookParts) (backed : IsBackedUp w k d) where
+module _ (pruning : Bool) (b : BookParts) (is : IsBook b) (word k : ℕ) (answer : Some k ≡ cond (state_of b).done None (Some (picked_of b word))) (below : k < b.task.options.beliefs) (w : BookParts) (taken : w ≡ cond (state_of b).done b (with_taken b word)) (d : BookParts) (backed : IsBackedUp w k d) where
   going : (state_of b).done ≡ false
   going = (given (state_of b).done k (picked_of b word) answer).0
 
@@ -103,19 +103,19 @@ module _ (b : BookParts) (is : IsBook b) (word k : ℕ) (answer : Some k ≡ con
   counted : (c : Bool) → publishes b (picked_of b word) ≡ c → length d.editions ≡ length b.editions + cond c 1 0
   counted c e = backed_is.count ∙ ap (λ (x : Bool). length b.editions + cond x 1 0) e
 
-  as_turn : (e : BookParts) → IsTurned b word e → IsTurn b word e
-  as_turn e turned = subst (λ (c : Bool). MatchBool c (e ≡ b) (IsTurned b word e)) (sym going) turned
+  as_turn : (e : BookParts) → IsTurned pruning b word e → IsTurn pruning b word e
+  as_turn e turned = subst (λ (c : Bool). MatchBool c (e ≡ b) (IsTurned pruning b word e)) (sym going) turned
 
-  pub turn_silent : length d.editions ≤ length w.editions → IsTurn b word d
+  pub turn_silent : length d.editions ≤ length w.editions → IsTurn pruning b word d
   turn_silent few = by_test (publishes b (picked_of b word)) refl
     where
-      by_test : (c : Bool) → publishes b (picked_of b word) ≡ c → IsTurn b word d
+      by_test : (c : Bool) → publishes b (picked_of b word) ≡ c → IsTurn pruning b word d
       by_test true e = let old = old_count in let more = counted true e in absurd (omega (arith, few, old, more))
-      by_test false e = as_turn d (turned_silently b is going word picked_low d backed_is e)
+      by_test false e = as_turn d (turned_silently pruning b is going word picked_low d backed_is e)
 
-  pub turn_with_prune : length w.editions < length d.editions → (e : BookParts) → IsPruning d e → IsTurn b word e
+  pub turn_with_prune : length w.editions < length d.editions → (e : BookParts) → IsPruning pruning d e → IsTurn pruning b word e
   turn_with_prune grown e pruned = by_test (publishes b (picked_of b word)) refl
     where
-      by_test : (c : Bool) → publishes b (picked_of b word) ≡ c → IsTurn b word e
-      by_test true is_up = as_turn e (turned_with_prune b is going word picked_low d backed_is is_up e pruned)
+      by_test : (c : Bool) → publishes b (picked_of b word) ≡ c → IsTurn pruning b word e
+      by_test true is_up = as_turn e (turned_with_prune pruning b is going word picked_low d backed_is is_up e pruned)
       by_test false is_down = let old = old_count in let more = counted false is_down in absurd (omega (arith, grown, old, more))

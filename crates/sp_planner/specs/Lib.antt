@@ -1,3 +1,5 @@
 pub mod Planned
 pub mod Turns
+pub mod Pauses
 pub mod Numbers
+pub mod Laws

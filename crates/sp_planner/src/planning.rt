@@ -1,12 +1,18 @@
 //! The run that one thread plans.
 
-ghost use Rattle.std.specs.Prelude.{◌≡◌, ◌<◌, ◌≤◌, IfOk, OnOk, true, false};
+ghost use Rattle.std.specs.Prelude.{◌≡◌, ◌<◌, ◌≤◌, IfOk, OnOk, MatchBool, true, false};
 ghost use Rattle.std.specs.Arc.{arc_value};
-ghost use Rattle.sp_core.specs.Books.{state_of};
+ghost use Rattle.sp_value.specs.Tasks.{task_of};
+ghost use Rattle.sp_core.specs.Books.{IsBook, state_of};
+ghost use Rattle.sp_core.specs.Marks.{marks_of};
+ghost use Rattle.sp_core.specs.Opening.{first_parts};
 ghost use Rattle.sp_value.specs.Events.{events_of};
-ghost use Rattle.sp_planner.specs.Planned.{AreOptions, IsPlanned, IsTaskFor};
-ghost use Rattle.sp_planner.specs.Turns.{IsTurn, IsBackedUp, IsPruning, IsUnderWay};
+ghost use Rattle.sp_sampler.specs.Words.{first_words};
+ghost use Rattle.sp_planner.specs.Planned.{AreOptions, IsPlanned, IsTaskFor, picking_words};
+ghost use Rattle.sp_planner.specs.Turns.{IsLater, IsTurn, IsBackedUp, IsPruning, IsRun};
+ghost use Rattle.sp_planner.specs.Pauses.{IsServed, is_pause, pauses};
 
+use crate::between::{BetweenTurns, Idle};
 use rand_core::{Rng, SeedableRng};
 use rand_pcg::Lcg128Xsl64;
 use sp_backup::{Projections, point_backup};
@@ -33,7 +39,7 @@ pub fn plan(
     requires { AreOptions options }
     ensures { IfOk result (λ run. IsPlanned model options (machine chooser) (arc_value run.task) (events_of run.events)) }
 {
-    let book = planned(alloc, model, options, chooser)?;
+    let book = plan_book(alloc, model, options, chooser)?;
     match book.into_run() {
         Ok(run) => Ok(run),
         Err(_) => unreachable!(),
@@ -41,7 +47,7 @@ pub fn plan(
 }
 
 /// The finished book of a plan.
-pub(crate) fn planned(
+pub fn plan_book(
     alloc: Global,
     model: Model,
     options: Options,
@@ -51,22 +57,118 @@ pub(crate) fn planned(
     ensures planned { IfOk result (λ b. IsPlanned model options (machine chooser) b.task b.history) }
     ensures done { IfOk result (λ b. (state_of b).done ≡ true) }
 {
-    let task = task_for(alloc, model, options, chooser)?;
-    let mut words = Lcg128Xsl64::seed_from_u64(options.seed.wrapping_add(1));
-    let book = run(alloc, task, &mut words, options.beliefs * options.stages)?;
+    let mut book = open_book(alloc, model, options, chooser)?;
+    let mut idle = Idle;
+    finish(alloc, &mut book, options.prune, &mut idle)?;
     Ok(book)
 }
 
-/// The book of a task after as many turns as are asked for, by the words of a generator.
-fn run<G: Rng>(alloc: Global, task: Arc<Task>, words: &mut G, turns: u64) -> Result<Book, NoMemory>
-    ensures { IfOk result (λ b. IsUnderWay (arc_value task) turns (G.stream words.old) turns b (G.stream words.new)) }
+/// Samples the beliefs of a plan, and gives its book before any event. The chooser is used up.
+pub fn open_book(
+    alloc: Global,
+    model: Model,
+    options: Options,
+    chooser: Box<dyn Chooser + Send>,
+) -> Result<Book, NoMemory>
+    requires { AreOptions options }
+    ensures task { IfOk result (λ b. IsTaskFor model options (machine chooser) b.task) }
+    ensures opening { IfOk result (λ b. b ≡ first_parts b.task) }
 {
-    let mut book = Book::begin(alloc, task)?;
-    let mut kept = Projections::new(alloc, KEPT)?;
-    for _ in 0..turns {
-        turn(alloc, &mut book, &mut kept, words.next_u64())?;
-    }
+    let task = task_for(alloc, model, options, chooser)?;
+    let book = Book::begin(alloc, task)?;
     Ok(book)
+}
+
+/// Plans a book to its end, from whatever events and marks it has, by the words of the task's seed plus 1. With pruning, dominated
+/// members are dropped after each stage but the last. `between` is served before the first turn, and after each turn that has added
+/// an edition and doesn't end the run; its want of memory ends the call. After an error the book stands later in its run.
+pub fn finish<B: BetweenTurns>(
+    alloc: Global,
+    book: &mut Book,
+    pruning: bool,
+    between: &mut B,
+) -> Result<(), NoMemory>
+    ensures run { OnOk result (IsRun pruning book.old (picking_words book.old.task.options) book.new) }
+    ensures done { OnOk result ((state_of book.new).done ≡ true) }
+    ensures later { IsLater book.old book.new }
+    ensures served { OnOk result (IsServed B.serves book.old.task (pauses (task_of book.old.task) pruning book.old.history (marks_of book.old.taken) (picking_words book.old.task.options)) between.old between.new) }
+{
+    // what is known of each book, here and at the end
+    let _ = book.task();
+    let (beliefs, stages, seed) = sizes_of(book);
+    let mut words = Lcg128Xsl64::seed_from_u64(seed.wrapping_add(1));
+    run(alloc, book, pruning, &mut words, beliefs * stages, between)?;
+    let _ = book.task();
+    Ok(())
+}
+
+/// How many beliefs and stages are planned, and the seed.
+fn sizes_of(book: &Book) -> (u64, u64, u64)
+    ensures beliefs { result.0 ≡ book.now.task.options.beliefs }
+    ensures few_beliefs { result.0 ≤ 4096 }
+    ensures stages { result.1 ≡ book.now.task.options.stages }
+    ensures few_stages { result.1 ≤ 1000 }
+    ensures seed { result.2 ≡ book.now.task.options.seed }
+{
+    let task = book.task();
+    // what is known of each task
+    let _ = task.model();
+    let options = task.options();
+    (options.beliefs, options.stages, options.seed)
+}
+
+/// As many turns as are asked for, by the words of a generator; none is drawn once the book is finished.
+fn run<G: Rng, B: BetweenTurns>(
+    alloc: Global,
+    book: &mut Book,
+    pruning: bool,
+    words: &mut G,
+    turns: u64,
+    between: &mut B,
+) -> Result<(), NoMemory>
+    ensures run { OnOk result (IsRun pruning book.old (first_words turns (G.stream words.old)) book.new) }
+    ensures later { IsLater book.old book.new }
+    ensures served { OnOk result (IsServed B.serves book.old.task (pauses (task_of book.old.task) pruning book.old.history (marks_of book.old.taken) (first_words turns (G.stream words.old))) between.old between.new) }
+{
+    // what is known of each book
+    let _ = book.task();
+    if book.is_done() {
+        return Ok(());
+    }
+    let mut kept = Projections::new(alloc, KEPT)?;
+    between.serve(book)?;
+    for _ in 0..turns {
+        if book.is_done() {
+            return Ok(());
+        }
+        step(alloc, book, pruning, &mut kept, words.next_u64(), between)?;
+    }
+    Ok(())
+}
+
+/// One turn, and what is served then.
+fn step<B: BetweenTurns>(
+    alloc: Global,
+    book: &mut Book,
+    pruning: bool,
+    kept: &mut Projections,
+    word: u64,
+    between: &mut B,
+) -> Result<(), NoMemory>
+    ensures turn { OnOk result (IsTurn pruning book.old word book.new) }
+    ensures later { IsLater book.old book.new }
+    ensures known { OnOk result (IsBook book.new) }
+    ensures served { OnOk result (MatchBool (is_pause (task_of book.old.task) book.old.history book.new.history) (B.serves between.old book.new between.new) (between.new ≡ between.old)) }
+{
+    // what is known of each book, here and after the turn
+    let _ = book.task();
+    let count = book.count();
+    turn(alloc, book, pruning, kept, word)?;
+    let _ = book.task();
+    if count < book.count() && !book.is_done() {
+        between.serve(book)?;
+    }
+    Ok(())
 }
 
 /// The task of a model, with its sampled beliefs.
@@ -94,8 +196,15 @@ fn task_for(
 }
 
 /// One turn: a backup at a belief that the word picks, on the latest edition, and what is due then. A finished book stays.
-fn turn(alloc: Global, book: &mut Book, kept: &mut Projections, word: u64) -> Result<(), NoMemory>
-    ensures { OnOk result (IsTurn book.old word book.new) }
+fn turn(
+    alloc: Global,
+    book: &mut Book,
+    pruning: bool,
+    kept: &mut Projections,
+    word: u64,
+) -> Result<(), NoMemory>
+    ensures turn { OnOk result (IsTurn pruning book.old word book.new) }
+    ensures later { IsLater book.old book.new }
 {
     // what is known of each book
     let _ = book.task();
@@ -105,7 +214,7 @@ fn turn(alloc: Global, book: &mut Book, kept: &mut Projections, word: u64) -> Re
     let count = book.count();
     back_up(alloc, book, kept, belief)?;
     if count < book.count() {
-        drop_dominated(alloc, book)?;
+        drop_dominated(alloc, book, pruning)?;
     }
     Ok(())
 }
@@ -119,13 +228,14 @@ fn back_up(
 ) -> Result<(), NoMemory>
     requires going { (state_of book.old).done ≡ false }
     requires below { belief < book.old.task.options.beliefs }
-    ensures { OnOk result (IsBackedUp book.old belief book.new) }
+    ensures backed_up { OnOk result (IsBackedUp book.old belief book.new) }
+    ensures later { IsLater book.old book.new }
 {
     // what is known of each book, here and after the settle
     let _ = book.task();
     let base = Arc::try_clone(book.latest())?;
     let candidate = point_backup(alloc, &base, belief, kept)?;
-    let settled = book.settle(candidate);
+    let settled = book.settle_ours(candidate);
     let _ = book.task();
     match settled {
         Ok(_) => Ok(()),
@@ -133,18 +243,21 @@ fn back_up(
     }
 }
 
-/// Drops the dominated members of the latest edition, where the task asks for it and the book isn't finished.
-fn drop_dominated(alloc: Global, book: &mut Book) -> Result<(), NoMemory>
-    ensures { OnOk result (IsPruning book.old book.new) }
+/// Drops the dominated members of the latest edition, where that is asked for and the book isn't finished.
+fn drop_dominated(alloc: Global, book: &mut Book, pruning: bool) -> Result<(), NoMemory>
+    ensures pruned { OnOk result (IsPruning pruning book.old book.new) }
+    ensures later { IsLater book.old book.new }
 {
-    if !book.task().options().prune || book.is_done() {
+    // what is known of each book
+    let _ = book.task();
+    if !pruning || book.is_done() {
         return Ok(());
     }
     let base = Arc::try_clone(book.latest())?;
     // what is known of each edition
     let _ = base.members();
     let pairs = dominated(alloc, &base)?;
-    match book.prune(&base, &pairs) {
+    match book.prune_ours(&base, &pairs) {
         Ok(_) => Ok(()),
         Err(_) => Err(NoMemory),
     }

@@ -10,7 +10,7 @@ ghost use Rattle.sp_core.specs.Books.{state_of};
 ghost use Rattle.sp_planner.specs.Planned.{AreOptions, IsSummaryFor, IsSummaryOf};
 ghost use Rattle.sp_planner.specs.Numbers.{value_at_first};
 
-use crate::planning::planned;
+use crate::planning::plan_book;
 use sp_choose::Chooser;
 use sp_core::Book;
 use sp_dd::NoMemory;
@@ -42,7 +42,7 @@ pub fn summarize(
     requires { AreOptions options }
     ensures { IfOk result (λ s. IsSummaryFor model options (machine chooser) s) }
 {
-    let book = planned(alloc, model, options, chooser)?;
+    let book = plan_book(alloc, model, options, chooser)?;
     let summary = summary_of(alloc, &book)?;
     Ok(summary)
 }
@@ -64,7 +64,7 @@ fn summary_of(alloc: Global, book: &Book) -> Result<Summary, NoMemory>
 }
 
 /// The value of an edition at belief 0, rounded down.
-fn first_value(alloc: Global, edition: &Edition) -> Result<i128, NoMemory>
+pub(crate) fn first_value(alloc: Global, edition: &Edition) -> Result<i128, NoMemory>
     ensures { IfOk result (λ z. z ≡ value_at_first edition.now.task (members_in edition.now)) }
 {
     // what is known of each edition

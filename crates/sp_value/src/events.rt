@@ -36,3 +36,6 @@ pub struct Run {
     pub task: Arc<Task>,
     pub events: Events,
 }
+
+/// Numbers of ticks: for each edition its value at belief 0, in ticks of 10^-9.
+pub type Values = Sequence<i128>;

@@ -14,7 +14,7 @@ mod tasks;
 
 pub use candidates::Candidate;
 pub use editions::{Edition, Member, Members};
-pub use events::{Event, Events, Run};
+pub use events::{Event, Events, Run, Values};
 pub use laws::{candidates_are_backups, candidates_are_close, candidates_are_low};
 pub use scores::is_better;
 pub use tasks::{Explore, Options, Task};

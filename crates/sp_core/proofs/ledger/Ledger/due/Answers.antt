@@ -14,12 +14,13 @@ pub shared_edition-requires : goal.shared_edition-requires
 shared_edition-requires c =
     let s = c.args.self.now in
     let x : Member = record { id = c.args.id; action = c.args.action; vector = c.args.vector.now } in
-    subst (λ (xs : List Member). IsEdition (record { number = c.len-number.result; task = arc_value s.task; members = xs })) (sym (c.in_ok-members.ensures ∙ ap (λ (xs : List Member). xs ++ x ∷ []) c.deref-5.ensures.value)) (record {
+    subst (λ (t : TaskParts). IsEdition (record { number = c.len-number.result; task = t; members = c.in_ok-members.members })) (sym c.task.ensures)
+    (subst (λ (xs : List Member). IsEdition (record { number = c.len-number.result; task = s.task; members = xs })) (sym (c.in_ok-members.ensures ∙ ap (λ (xs : List Member). xs ++ x ∷ []) c.deref-4.ensures.value)) (record {
       task = c.requires.ledger.task;
       some = omega (arith, length-append s.grown.items (x ∷ []));
       different = c.requires.different;
-      members = All-push (IsMemberOf (arc_value s.task).model) s.grown.items x c.requires.ledger.grown c.requires.member;
-    })
+      members = All-push (IsMemberOf s.task.model) s.grown.items x c.requires.ledger.grown c.requires.member;
+    }))
 
 pub returns-clause-entry : goal.returns-clause-entry
 returns-clause-entry c =
@@ -28,13 +29,12 @@ returns-clause-entry c =
     let final = with_items_is s.worths c.weigh.new.worths (search (rules, places)) in
     let long : vec_len s.editions ≡ length s.editions.items = search (rules, places) in
     let number = c.len-number.ensures ∙ long ∙ sym (length-map s.editions.items arc_value) in
-    let members = c.in_ok-members.ensures ∙ ap (λ (xs : List Member). xs ++ x ∷ []) c.deref-5.ensures.value in
+    let members = c.in_ok-members.ensures ∙ ap (λ (xs : List Member). xs ++ x ∷ []) c.deref-4.ensures.value in
     record {
       known = c.requires.member;
-      worths = subst (AreWorths (task_of (arc_value s.task)) (vector_of (arc_value s.task).model c.args.vector.now)) (sym final)
-          (subst (λ (t : TaskParts). AreWorths (task_of t) (vector_of t.model c.args.vector.now) c.weigh.new.worths) c.deref.ensures c.in_ok-weigh.ensures);
+      worths = subst (AreWorths (task_of s.task) (vector_of s.task.model c.args.vector.now)) (sym final) c.in_ok-weigh.ensures;
       due = (
-        up_same _ _ _ _ _ _ c.deref-2.ensures.value c.deref-3.ensures.value c.deref-4.ensures.value c.if-not-are_all_raised.ensures,
-        c.in_ok-edition.ensures ∙ (λ i. let r : EditionParts = record { number = number i; task = arc_value s.task; members = members i } in r),
+        up_same _ _ _ _ _ _ c.deref.ensures.value c.deref-2.ensures.value c.deref-3.ensures.value c.if-not-are_all_raised.ensures,
+        c.in_ok-edition.ensures ∙ (λ i. let r : EditionParts = record { number = number i; task = c.task.ensures i; members = members i } in r),
       );
     }

@@ -5,6 +5,7 @@ use Rattle.std.proofs.Common.{Global}
 use Rattle.std.proofs.lemmas.List.{places}
 use Rattle.sp_value.specs.declared.editions.Member.{Member}
 use Rattle.sp_value.specs.declared.editions.Edition.{Edition}
+use Rattle.sp_value.specs.Tasks.{TaskParts}
 use Rattle.sp_value.specs.Editions.{IsEdition}
 use Rattle.sp_core.specs.Ledgers.{contents}
 use Rattle.sp_drops.specs.Drops.{left_by}
@@ -21,5 +22,6 @@ shared_edition-requires c =
     let read = c.index-latest.ensures ∙ ap (λ (xs : List (Arc Edition Global)). get_or xs (c.len.result - 1) c.index-latest.result.now) c.reserve-2.ensures.items in
     let last = read_last arc_value old.items c.len.result c.index-latest.result.now c.deref.result.now (c.len.ensures ∙ c.reserve-2.ensures.len ∙ long) (some_edition own ledger) read c.deref.ensures in
     let members = c.in_ok-members.ensures ∙ ap (left_by c.args.pairs.now) (c.as_slice.ensures ∙ c.members.ensures.value) in
-    subst (λ (xs : List Member). IsEdition (record { number = c.len-number.result; task = arc_value c.args.self.now.task; members = xs })) (sym members)
-    (left_edition own ledger c.deref.result.now last c.members.ensures.known c.args.pairs.now c.requires.some c.len-number.result)
+    subst (λ (t : TaskParts). IsEdition (record { number = c.len-number.result; task = t; members = c.in_ok-members.members })) (sym c.task.ensures)
+    (subst (λ (xs : List Member). IsEdition (record { number = c.len-number.result; task = c.args.self.now.task; members = xs })) (sym members)
+    (left_edition own ledger c.deref.result.now last c.members.ensures.known c.args.pairs.now c.requires.some c.len-number.result))

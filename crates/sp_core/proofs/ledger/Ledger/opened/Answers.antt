@@ -29,23 +29,24 @@ returns-clause-ledger c =
     let count : c.options.result.now.beliefs ≡ t.options.beliefs = ap (λ (o : Options). o.beliefs) options in
     let stages : c.options-2.result.now.stages ≡ t.options.stages = ap (λ (o : Options). o.stages) (c.options-2.ensures ∙ ap (λ (u : TaskParts). u.options) c.deref-3.ensures) in
     let member : c.in_ok-member.member ≡ first_member t = c.in_ok-member.ensures.value ∙ ap first_member c.deref-4.ensures in
-    let edition : arc_value c.in_ok-edition.edition ≡ first_edition t = c.in_ok-edition.ensures in
+    let own : c.in_ok-task.task ≡ t = c.in_ok-task.ensures in
+    let edition : arc_value c.in_ok-edition.edition ≡ first_edition t = c.in_ok-edition.ensures ∙ ap first_edition (c.task-2.ensures ∙ own) in
     let editions : c.in_ok-editions.editions.items ≡ c.in_ok-edition.edition ∷ [] = c.in_ok-editions.ensures in
     let improved : c.in_ok-improved.improved.items ≡ replicate c.options.result.now.beliefs false = c.in_ok-improved.ensures in
     let taken : c.in_ok-taken.taken.items ≡ replicate c.options.result.now.beliefs false = c.in_ok-taken.ensures in
     let room : c.in_ok-latest_values.latest_values.items ≡ replicate c.options.result.now.beliefs (pos 0) = c.in_ok-latest_values.ensures in
     let grown_values : c.in_ok-grown_values.grown_values.items ≡ replicate c.options.result.now.beliefs (pos 0) = c.in_ok-grown_values.ensures in
     let worths : c.in_ok-worths.worths.items ≡ replicate c.options.result.now.beliefs (pos 0) = c.in_ok-worths.ensures in
-    let weighed : AreWorths (task_of c.deref-5.result.now) (vector_of c.deref-5.result.now.model c.in_ok-member.member.vector) c.weigh.new.worths = c.in_ok-weigh.ensures in
+    let weighed : AreWorths (task_of c.in_ok-task.task) (vector_of c.in_ok-task.task.model c.in_ok-member.member.vector) c.weigh.new.worths = c.in_ok-weigh.ensures in
     let final = with_items_is c.in_ok-latest_values.latest_values c.weigh.new.worths (search (rules, places)) in
     let long : length c.weigh.new.worths ≡ t.options.beliefs = c.weigh.auto.worths ∙ ap (λ (xs : List ℤ). length xs) (c.as_mut_slice.ensures.value ∙ room) ∙ length-replicate c.options.result.now.beliefs (pos 0) ∙ count in
     first_ledger t is scope _
     (λ i. let r : Contents = record {
-      task = t;
-      events = events_of (c.new.ensures.items i);
+      task = own i;
+      events = events_of (c.new-2.ensures.items i);
       editions = (ap (λ (xs : List (Arc Edition Global)). map arc_value xs) editions ∙ ap (λ (e : EditionParts). e ∷ []) edition) i;
       records = 1;
-      grown = c.new-2.ensures.items i;
+      grown = c.new-3.ensures.items i;
       improved = (improved ∙ ap (λ (n : ℕ). replicate n false) count) i;
       taken = (taken ∙ ap (λ (n : ℕ). replicate n false) count) i;
       latest_values = (with_items c.in_ok-latest_values.latest_values c.weigh.new.worths).items;
@@ -57,4 +58,4 @@ returns-clause-ledger c =
     (ap (λ (xs : List ℤ). length xs) final ∙ long)
     (subst (AreWorths (task_of t) (vector_of t.model (first_member t).vector)) (sym final)
     (subst (λ (x : Member). AreWorths (task_of t) (vector_of t.model x.vector) c.weigh.new.worths) member
-    (subst (λ (u : TaskParts). AreWorths (task_of u) (vector_of u.model c.in_ok-member.member.vector) c.weigh.new.worths) c.deref-5.ensures weighed)))
+    (subst (λ (u : TaskParts). AreWorths (task_of u) (vector_of u.model c.in_ok-member.member.vector) c.weigh.new.worths) own weighed)))

@@ -29,7 +29,7 @@ returns-in-Neither-clause-plan c =
     let fits_grown : FitsSigned w128 c.index-3.result.now = search rules in
     let fits_worth : FitsSigned w128 c.in_ok-worth.worth = search rules in
     let chosen : choice_for now d ≡ Neither = chosen_is now led d is ours c.belief-belief.result c.belief-belief.ensures _ _ _ _ _ _ _ c.index.ensures c.index-2.ensures c.index-3.ensures
-    (to_z-of_z w128 _ fits_latest) (to_z-of_z w128 _ fits_grown) (to_z-of_z w128 _ fits_worth) _ _ _ c.deref.ensures c.belief.ensures c.vector.ensures.value c.in_ok-worth.ensures _ Neither c.choose-choice.ensures c.in-Neither.is in
+    (to_z-of_z w128 _ fits_latest) (to_z-of_z w128 _ fits_grown) (to_z-of_z w128 _ fits_worth) _ _ _ (c.deref.ensures ∙ c.task.ensures) c.belief.ensures c.vector.ensures.value c.in_ok-worth.ensures _ Neither c.choose-choice.ensures c.in-Neither.is in
     chosen
 
 pub due-requires-clause-member : goal.due-requires-clause-member
@@ -106,7 +106,7 @@ due-requires-in-Old-clause-different c =
     let fits_grown : FitsSigned w128 c.index-3.result.now = search rules in
     let fits_worth : FitsSigned w128 c.in_ok-worth.worth = search rules in
     let chosen : choice_for now d ≡ Old = chosen_is now led d is ours c.belief-belief.result c.belief-belief.ensures _ _ _ _ _ _ _ c.index.ensures c.index-2.ensures c.index-3.ensures
-    (to_z-of_z w128 _ fits_latest) (to_z-of_z w128 _ fits_grown) (to_z-of_z w128 _ fits_worth) _ _ _ c.deref.ensures c.belief.ensures c.vector.ensures.value c.in_ok-worth.ensures _ Old c.choose-choice.ensures c.in-Old.is in
+    (to_z-of_z w128 _ fits_latest) (to_z-of_z w128 _ fits_grown) (to_z-of_z w128 _ fits_worth) _ _ _ (c.deref.ensures ∙ c.task.ensures) c.belief.ensures c.vector.ensures.value c.in_ok-worth.ensures _ Old c.choose-choice.ensures c.in-Old.is in
     let greatest = greatest_is now led e last d.belief c.belief-in-Old.result c.in_ok-member-in-Old.member c.belief-in-Old.ensures c.in_ok-member-in-Old.ensures.greatest in
     different_old now led going d is ours chosen c.in_ok-member-in-Old.member greatest
 
@@ -123,7 +123,7 @@ returns-in_ok-next-in-New-clause-plan c =
     let fits_grown : FitsSigned w128 c.index-3.result.now = search rules in
     let fits_worth : FitsSigned w128 c.in_ok-worth.worth = search rules in
     let chosen : choice_for now d ≡ New = chosen_is now led d is ours c.belief-belief.result c.belief-belief.ensures _ _ _ _ _ _ _ c.index.ensures c.index-2.ensures c.index-3.ensures
-    (to_z-of_z w128 _ fits_latest) (to_z-of_z w128 _ fits_grown) (to_z-of_z w128 _ fits_worth) _ _ _ c.deref.ensures c.belief.ensures c.vector.ensures.value c.in_ok-worth.ensures _ New c.choose-choice.ensures c.in-New.is in
+    (to_z-of_z w128 _ fits_latest) (to_z-of_z w128 _ fits_grown) (to_z-of_z w128 _ fits_worth) _ _ _ (c.deref.ensures ∙ c.task.ensures) c.belief.ensures c.vector.ensures.value c.in_ok-worth.ensures _ New c.choose-choice.ensures c.in-New.is in
     let then = contents c.due.new.self in
     let it_is : (record { id = now.records; action = c.action.result; vector = c.vector-in-New.result.now }) ≡ new_member then d = (λ i. let r : Member = record { id = sym (ap (λ (x : Contents). x.records) c.due.ensures.same) i; action = c.action.ensures i; vector = c.vector-in-New.ensures.value i } in r) in
     (ap (λ (x : Contents). choice_for x d) c.due.ensures.same ∙ chosen, subst (λ (x : Member). IsEntry then x (option_map arc_value c.in_ok-next-in-New.next)) it_is c.in_ok-next-in-New.ensures.entry)
@@ -145,7 +145,7 @@ returns-in_ok-next-in-Old-clause-plan c =
     let fits_grown : FitsSigned w128 c.index-3.result.now = search rules in
     let fits_worth : FitsSigned w128 c.in_ok-worth.worth = search rules in
     let chosen : choice_for now d ≡ Old = chosen_is now led d is ours c.belief-belief.result c.belief-belief.ensures _ _ _ _ _ _ _ c.index.ensures c.index-2.ensures c.index-3.ensures
-    (to_z-of_z w128 _ fits_latest) (to_z-of_z w128 _ fits_grown) (to_z-of_z w128 _ fits_worth) _ _ _ c.deref.ensures c.belief.ensures c.vector.ensures.value c.in_ok-worth.ensures _ Old c.choose-choice.ensures c.in-Old.is in
+    (to_z-of_z w128 _ fits_latest) (to_z-of_z w128 _ fits_grown) (to_z-of_z w128 _ fits_worth) _ _ _ (c.deref.ensures ∙ c.task.ensures) c.belief.ensures c.vector.ensures.value c.in_ok-worth.ensures _ Old c.choose-choice.ensures c.in-Old.is in
     let greatest = greatest_is now led e last d.belief c.belief-in-Old.result c.in_ok-member-in-Old.member c.belief-in-Old.ensures c.in_ok-member-in-Old.ensures.greatest in (
       ap (λ (x : Contents). choice_for x d) c.due-in-Old.ensures.same ∙ chosen,
       subst (λ (x : Contents). IsGreatestAtBelief x d.belief c.in_ok-member-in-Old.member) (sym c.due-in-Old.ensures.same) greatest,
