@@ -18,12 +18,12 @@ mod PlaceLemmas
 mod AmongLemmas
 mod PlaceNames
 mod RowPlaceLemmas
-mod RoleRowLemmas
+pub mod RoleRowLemmas
 mod TableRowLemmas
 mod InitRowLemmas
 mod ItemRowLemmas
 mod ActionRowLemmas
 mod FrameLemmas
 mod EndLemmas
-mod TextLemmas
+pub mod TextLemmas
 pub mod OneRowLemmas

@@ -20,7 +20,7 @@ use std::alloc::Global;
 
 /// What a tree mentions, and its function.
 #[derive(Drop)]
-pub(crate) struct Accepted {
+pub struct Accepted {
     pub mentions: Slots,
     pub func: Shared,
 }

@@ -21,14 +21,14 @@ use std::alloc::Global;
 
 /// A factor's place, and what judging it gave.
 #[derive(Drop)]
-pub(crate) struct Share {
+pub struct Share {
     pub at: u64,
     pub judged: Judged,
 }
 
 /// The factors so far, and the slots that they mention.
 #[derive(Drop)]
-pub(crate) struct Factored {
+pub struct Factored {
     pub used: Slots,
     pub list: Factors,
 }

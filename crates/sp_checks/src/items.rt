@@ -19,7 +19,7 @@ use std::marker::Model;
 
 /// The tables of some variables, of which some aren't listed. Contracts see them as a list.
 #[derive(Drop)]
-pub(crate) struct Tables {
+pub struct Tables {
     list: Vec<Option<Shared>>,
 }
 
@@ -72,7 +72,7 @@ impl Tables {
 
 /// The items of an action so far: its number, and what it lists.
 #[derive(Drop)]
-pub(crate) struct Listed {
+pub struct Listed {
     pub action: u64,
     pub moves: Tables,
     pub sights: Tables,

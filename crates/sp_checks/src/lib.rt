@@ -17,7 +17,12 @@ mod roles;
 mod sections;
 mod state;
 
+pub use accepted::Accepted;
+pub use initial::{Factored, Share};
+pub use items::{Listed, Tables};
 pub use laws::one_refusal;
 pub use reading::model_of;
+pub use roles::Role;
 pub use sp_declarations::ModelError;
 pub use sp_trees::ModelKind;
+pub use state::{Draft, Drafts, State};

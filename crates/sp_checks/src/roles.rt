@@ -11,7 +11,7 @@ use sp_trees::Slots;
 
 /// What a tree of a text is for.
 #[derive(Clone, Copy, Debug, Drop, PartialEq, Eq)]
-pub(crate) enum Role {
+pub enum Role {
     /// To be referred to.
     Dd,
     /// A factor of the initial belief.

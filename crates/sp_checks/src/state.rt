@@ -6,7 +6,7 @@ use sp_trees::{Env, Shared};
 
 /// An action whose tables were read.
 #[derive(Drop)]
-pub(crate) struct Draft {
+pub struct Draft {
     pub name: Name,
     pub cost: Option<Shared>,
     /// A table for each state variable.
@@ -15,11 +15,11 @@ pub(crate) struct Draft {
     pub sights: Funcs,
 }
 
-pub(crate) type Drafts = Sequence<Draft>;
+pub type Drafts = Sequence<Draft>;
 
 /// What the sections gave so far.
 #[derive(Drop)]
-pub(crate) struct State<'a> {
+pub struct State<'a> {
     pub env: Env<'a>,
     /// The names of the actions.
     pub names: Names<'a>,

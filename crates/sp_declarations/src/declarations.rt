@@ -16,7 +16,7 @@ use std::alloc::Global;
 
 /// The most variables of a sort, and the most choices of a value for each of them.
 #[derive(Clone, Copy, Debug, Drop)]
-pub(crate) struct Limits {
+pub struct Limits {
     pub most: u64,
     pub points: u64,
 }
@@ -26,7 +26,7 @@ const MOST_VALUES: u64 = 64;
 
 /// What was declared of a sort so far.
 #[derive(Drop)]
-pub(crate) struct Read<'a> {
+pub struct Read<'a> {
     /// The names of both sorts.
     pub names: Names<'a>,
     pub decls: Decls,

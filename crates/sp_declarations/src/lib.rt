@@ -7,6 +7,6 @@ mod declarations;
 mod error;
 mod laws;
 
-pub use declarations::{Declared, declarations_of};
+pub use declarations::{Declared, Limits, Read, declarations_of};
 pub use error::{ModelError, refuse};
 pub use laws::{declarations_are_told, rows_are_refusals};

@@ -29,7 +29,7 @@ impl Judged {
 /// A branch of a node: the place of its value's word, the number of that value among those of the node's variable, and what
 /// judging its tree gave.
 #[derive(Drop)]
-pub(crate) struct Listed {
+pub struct Listed {
     pub at: u64,
     pub value: Option<u64>,
     pub judged: Judged,

@@ -17,10 +17,11 @@ mod slots;
 mod words;
 
 pub use env::{Dd, Dds, Env, Shared};
-pub use judged::Judged;
+pub use judged::{Judged, Listed};
 pub use laws::{rows_are_refusals, trees_are_told, values_are_the_trees};
+pub use lists::Op;
 pub use meaning::judge;
-pub use nodes::{Place, place_of};
+pub use nodes::{Branching, Place, place_of};
 pub use refusal::{ModelKind, Refusal, lesser, refused_if};
 pub use slots::Slots;
 pub use words::{number_of, text};

@@ -15,7 +15,7 @@ use std::alloc::Global;
 
 /// What a list of trees does with their values.
 #[derive(Clone, Copy, Debug, Drop, PartialEq, Eq)]
-pub(crate) enum Op {
+pub enum Op {
     Sum,
     Product,
 }

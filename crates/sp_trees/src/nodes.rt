@@ -29,7 +29,7 @@ pub enum Place {
 
 /// Where a node stands, and what it branches on.
 #[derive(Clone, Copy, Drop)]
-pub(crate) struct Branching {
+pub struct Branching {
     /// The place of its bracket.
     pub left: u64,
     /// The place of its variable's word.

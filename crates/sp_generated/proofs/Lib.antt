@@ -1,0 +1,13 @@
+pub mod Printed
+pub mod Facts
+pub mod Words
+pub mod Scope
+pub mod Choices
+pub mod Roles
+pub mod Trees
+pub mod Declared
+pub mod Opening
+pub mod Rewards
+pub mod Actions
+pub mod Tables
+pub mod Models

@@ -1,0 +1,9 @@
+pub mod Lexed
+pub mod Written
+pub mod Trees
+pub mod Keywords
+pub mod Sections
+pub mod Declarations
+pub mod Texts
+pub mod Digits
+pub mod Numbers

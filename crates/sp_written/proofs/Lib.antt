@@ -1,0 +1,16 @@
+pub mod Nodes
+pub mod Trees
+pub mod Sums
+pub mod Lines
+pub mod Items
+pub mod Init
+pub mod Texts
+pub mod Names
+pub mod NodeLists
+pub mod Tests
+pub mod Ends
+pub mod Declared
+pub mod Places
+pub mod Lawful
+pub mod Blocks
+pub mod Models
