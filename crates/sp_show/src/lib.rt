@@ -3,4 +3,4 @@
 
 mod decimals;
 
-pub use decimals::decimal;
+pub use decimals::{decimal, push_decimal};

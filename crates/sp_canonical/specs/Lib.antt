@@ -1,0 +1,5 @@
+pub mod Tables
+pub mod ModelSigns
+pub mod Gaps
+pub mod Lent
+pub mod Laws

@@ -1,0 +1,13 @@
+pub mod Fresh
+pub mod Declared
+pub mod Slots
+pub mod Functions
+pub mod Roles
+pub mod Actions
+pub mod Blocks
+pub mod Mentions
+pub mod Owned
+pub mod Init
+pub mod Factors
+pub mod Lengths
+pub mod Models
