@@ -6,7 +6,8 @@ use Rattle.std.proofs.lemmas.Option.{get_or_from_slice_get}
 use Rattle.std.specs.Fmt.{decimal}
 use Rattle.sp_value.specs.declared.events.Event.{Event}
 use Rattle.sp_value.specs.Events.{event_of, events_of}
-use Rattle.sp_planfile.specs.RunText.{event_lines, events_text, spaced_pairs}
+use Rattle.sp_lines.specs.Lines.{spaced_pairs}
+use Rattle.sp_planfile.specs.RunText.{event_lines, events_text}
 
 pub run_is : (events : List Event) (one two end : List ℕ) → one ≡ codes "events " ++ (decimal (length events) ++ codes "\n") → two ≡ one ++ event_lines (events_of events) → end ≡ two ++ codes "sessions 0\ndone\n" → end ≡ events_text (events_of events)
 run_is events one two end e f g =

@@ -5,7 +5,8 @@ use Rattle.std.specs.Fmt.{decimal}
 use Rattle.std.proofs.lemmas.Str.Parse.{digit_at}
 use Rattle.std.proofs.lemmas.Fmt.{decimal_is_IsNumeral, decimal_injective}
 use Rattle.sp_theory.specs.Book.{Event, settle, publish, prune, end}
-use Rattle.sp_planfile.specs.RunText.{spaced, spaced_pairs, event_line, event_lines, IsSmall, IsSmallPair, HasSmall, TextTellsEvents}
+use Rattle.sp_lines.specs.Lines.{spaced, spaced_pairs, IsSmall, IsSmallPair}
+use Rattle.sp_planfile.specs.RunText.{event_line, event_lines, HasSmall, TextTellsEvents}
 
 -- the list hasn't that byte
 abbrev pub Lacks : ℕ → List ℕ → Type 0
@@ -35,7 +36,7 @@ decimal_lacks : (c n : ℕ) → c < 48 → IsSmall n → Lacks c (decimal n)
 decimal_lacks c n low small = from_digits c (decimal n) low (λ k h. (digit_at (decimal n) k ((decimal_is_IsNumeral n small).0.1) h).0)
 
 -- the numbers of a line have no end of a line in them
-spaced_lacks : (numbers : List ℕ) → AllByRecursion IsSmall numbers → Lacks 10 (spaced numbers)
+pub spaced_lacks : (numbers : List ℕ) → AllByRecursion IsSmall numbers → Lacks 10 (spaced numbers)
 spaced_lacks [] small = tt
 spaced_lacks (n ∷ numbers) small = (λ e. omega (arith, e), lacks-append 10 (decimal n) (spaced numbers) (decimal_lacks 10 n (omega arith) small.0) (spaced_lacks numbers small.1))
 
@@ -48,11 +49,11 @@ pairs_lack ((x, y) ∷ pairs) small = (
 )
 
 -- letters are no end of a line
-letters : (xs : List ℕ) → AllByRecursion (λ x. 10 < x) xs → Lacks 10 xs
+pub letters : (xs : List ℕ) → AllByRecursion (λ x. 10 < x) xs → Lacks 10 xs
 letters [] all = tt
 letters (x ∷ xs) all = (λ e. let high : 10 < x = all.0 in omega (arith, e, high), letters xs all.1)
 
-line_lacks : (event : Event) → HasSmall event → Lacks 10 (event_line event)
+pub line_lacks : (event : Event) → HasSmall event → Lacks 10 (event_line event)
 line_lacks (settle k e a links) small = lacks-append 10 (codes "settle") (spaced (k ∷ e ∷ a ∷ links)) (letters (codes "settle") (omega arith, (omega arith, (omega arith, (omega arith, (omega arith, (omega arith, tt))))))) (spaced_lacks (k ∷ e ∷ a ∷ links) small)
 line_lacks publish small = letters (codes "publish") (omega arith, (omega arith, (omega arith, (omega arith, (omega arith, (omega arith, (omega arith, tt)))))))
 line_lacks (prune pairs) small = lacks-append 10 (codes "prune") (spaced_pairs pairs) (letters (codes "prune") (omega arith, (omega arith, (omega arith, (omega arith, (omega arith, tt)))))) (pairs_lack pairs small)
@@ -89,7 +90,7 @@ number_of m n us vs a b f g e =
     let words = word_of (decimal m) (decimal n) us vs (decimal_lacks 32 m (omega arith) a) (decimal_lacks 32 n (omega arith) b) f g e in
     (decimal_injective m n a b words.0, words.1)
 
-spaced_tells : (xs ys : List ℕ) → AllByRecursion IsSmall xs → AllByRecursion IsSmall ys → spaced xs ≡ spaced ys → xs ≡ ys
+pub spaced_tells : (xs ys : List ℕ) → AllByRecursion IsSmall xs → AllByRecursion IsSmall ys → spaced xs ≡ spaced ys → xs ≡ ys
 spaced_tells [] [] a b e = refl
 spaced_tells [] (y ∷ ys) a b e = cc
 spaced_tells (x ∷ xs) [] a b e = cc
@@ -112,10 +113,10 @@ pairs_tell ((x, y) ∷ xs) ((u, v) ∷ ys) a b e =
     cc (one.0, two.0, rest)
 
 -- lines that begin otherwise are different
-differs : (k : ℕ) (x y : List ℕ) → x ≡ y → slice_index x k < slice_index y k → ⊥
+pub differs : (k : ℕ) (x y : List ℕ) → x ≡ y → slice_index x k < slice_index y k → ⊥
 differs k x y e less = omega (arith, ap (λ w. slice_index w k) e, less)
 
-line_tells : (event other : Event) → HasSmall event → HasSmall other → event_line event ≡ event_line other → event ≡ other
+pub line_tells : (event other : Event) → HasSmall event → HasSmall other → event_line event ≡ event_line other → event ≡ other
 line_tells (settle k e a links) (settle k' e' a' links') small small' same =
     let numbers : spaced (k ∷ e ∷ a ∷ links) ≡ spaced (k' ∷ e' ∷ a' ∷ links') = cc same in
     let all = spaced_tells (k ∷ e ∷ a ∷ links) (k' ∷ e' ∷ a' ∷ links') small small' numbers in

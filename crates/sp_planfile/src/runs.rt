@@ -2,7 +2,8 @@
 
 ghost use Rattle.std.specs.Prelude.{◌≡◌, ◌++◌, ◌∷◌, [], IfOk, OnOk, string_bytes};
 ghost use Rattle.std.specs.List.{AllByRecursion};
-ghost use Rattle.sp_planfile.specs.RunText.{events_text, event_lines, event_line, spaced, spaced_pairs, IsSmall, IsSmallPair, HasSmall, AreSmall};
+ghost use Rattle.sp_lines.specs.Lines.{spaced, spaced_pairs, IsSmall, IsSmallPair};
+ghost use Rattle.sp_planfile.specs.RunText.{events_text, event_lines, event_line, HasSmall, AreSmall};
 ghost use Rattle.sp_value.specs.Events.{event_of, events_of};
 
 use sp_dd::{NoMemory, Pairs};

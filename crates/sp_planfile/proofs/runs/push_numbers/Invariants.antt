@@ -1,5 +1,5 @@
 use Rattle.std.proofs.Common.{◌≡◌, drop, ◌++◌, string_bytes}
-use Rattle.sp_planfile.specs.RunText.{spaced}
+use Rattle.sp_lines.specs.Lines.{spaced}
 use Rattle.sp_planfile.proofs.runs.push_numbers.Given as goal
 
 abbrev pub invariant-loop-number : goal.invariant-loop-number

@@ -3,7 +3,7 @@ use Rattle.std.specs.Prelude.{All}
 use Rattle.std.proofs.lemmas.List.{take_all}
 use Rattle.std.proofs.lemmas.List.Elements.{All-more, recursion_from_All}
 use Rattle.std.proofs.lemmas.Option.{get_or_from_slice_get}
-use Rattle.sp_planfile.specs.RunText.{IsSmallPair}
+use Rattle.sp_lines.specs.Lines.{IsSmallPair}
 use Rattle.sp_planfile.proofs.Pieces.{pair_step}
 use Rattle.sp_planfile.proofs.runs.push_pairs.Goals as goal
 

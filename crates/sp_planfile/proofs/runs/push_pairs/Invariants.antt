@@ -1,6 +1,6 @@
 use Rattle.std.proofs.Common.{◌≡◌, take, drop, ◌++◌, string_bytes}
 use Rattle.std.specs.Prelude.{All}
-use Rattle.sp_planfile.specs.RunText.{spaced_pairs, IsSmallPair}
+use Rattle.sp_lines.specs.Lines.{spaced_pairs, IsSmallPair}
 use Rattle.sp_planfile.proofs.runs.push_pairs.Given as goal
 
 abbrev pub invariant-loop-place : goal.invariant-loop-place

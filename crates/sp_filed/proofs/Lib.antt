@@ -1,0 +1,13 @@
+pub mod Lines
+pub mod Stopped
+pub mod Sessions
+pub mod Beliefs
+pub mod Readings
+pub mod Bodies
+pub mod PlanFiles
+pub mod LineLaws
+pub mod LogLaws
+pub mod TailLaws
+pub mod MoveLaws
+pub mod ModelLaws
+pub mod FaultLaws

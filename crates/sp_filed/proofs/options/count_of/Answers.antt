@@ -1,0 +1,15 @@
+use Rattle.std.proofs.Common.{rules, ◌≡◌, ◌<◌, ◌≤◌, ◌∷◌, [], ◌++◌, ℕ, List, length, arith, ap, sym, ◌∙◌, codes, append_assoc, Ok, Err}
+use Rattle.std.proofs.Common.{Option, Some, None, ◌≢◌}
+use Rattle.std.specs.Prelude.{MatchOption}
+use Rattle.sp_lines.specs.Lines.{spaced, IsSmall}
+use Rattle.sp_planfile.specs.PlanText.{count_line}
+use Rattle.sp_planfile.proofs.Sections.{behind_same}
+use Rattle.sp_filed.proofs.options.count_of.Goals as goal
+
+told : (r : Option ℕ) (line word text : List ℕ) → line ≡ word ++ text → MatchOption r ((x : ℕ) → IsSmall x → text ≢ spaced (x ∷ [])) (λ x. IsSmall x × (text ≡ spaced (x ∷ [])))
+    → MatchOption r ((n : ℕ) → IsSmall n → line ≢ count_line word n) (λ n. IsSmall n × (line ≡ count_line word n))
+told None line word text e none = λ n small is. none n small (behind_same word text (spaced (n ∷ [])) (sym e ∙ is))
+told (Some n) line word text e read = (read.0, e ∙ ap (λ l. word ++ l) read.1)
+
+pub returns : goal.returns
+returns c = told c.one_number.result c.args.line.now c.args.word.now c.in_ok-text.text.now c.in_ok-text.ensures c.one_number.ensures

@@ -1,0 +1,23 @@
+//! Plan files as they are read.
+#![tactic(auto)]
+
+mod entries;
+mod error;
+mod events;
+mod heads;
+mod laws;
+mod logs;
+mod moves;
+mod options;
+mod read;
+mod sections;
+mod sizes;
+mod stops;
+mod tails;
+mod tasks;
+mod values;
+
+pub use error::{PlanError, PlanKind};
+pub use laws::plan_files_are_not_at_fault;
+pub use read::{read_any, read_plan};
+pub use tasks::Filed;

@@ -1,0 +1,6 @@
+pub mod Lines
+pub mod ModelLines
+pub mod Ranges
+pub mod Parts
+pub mod Form
+pub mod Finished
