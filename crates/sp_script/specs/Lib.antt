@@ -1,0 +1,10 @@
+pub mod Lines
+pub mod Requests
+pub mod Grammar
+pub mod Commands
+pub mod Script
+pub mod PlainRequests
+pub mod Ledger
+pub mod Reading
+pub mod Served
+pub mod Laws
