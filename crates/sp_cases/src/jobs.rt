@@ -36,6 +36,7 @@ fn text_of(alloc: Global, job: &Job) -> Result<String, AllocError> {
     match job {
         Job::Plan(plan) => plan_text(alloc, plan),
         Job::Check { model } => format!(in alloc; "check {}", model.as_str()),
+        Job::Show { model } => format!(in alloc; "show {}", model.as_str()),
         Job::Gen { number } => format!(in alloc; "gen {number}"),
         Job::Trial { number } => format!(in alloc; "trial {number}"),
     }

@@ -1,5 +1,6 @@
 -- The table: what one cause bars of the others.
-use Rattle.std.proofs.Common.{◌≡◌, ℕ, ◌+◌, ◌<◌, ◌≤◌, List, [], ◌∷◌, length, Option, Some, None, Result, refl, sym, ◌∙◌, Contains, arith, replicate, OnOk, OnErr, Ok, Err, inl, inr, codes}
+use Rattle.std.proofs.Common.{◌≡◌, ℕ, ◌+◌, ◌<◌, ◌≤◌, List, [], ◌∷◌, length, Option, Some, None, Result, refl, sym, ◌∙◌, subst, Contains, arith, replicate, OnOk, OnErr, Ok, Err, inl, inr}
+use Rattle.std.specs.Prelude.{IfOk, MatchResult}
 use Rattle.std.specs.Prelude.{⊤}
 use Rattle.std.proofs.lemmas.List.{append-nil, length-replicate}
 use Rattle.sp_outside.specs.Folder.{Folder, IsLater}
@@ -9,7 +10,7 @@ use Rattle.sp_outside.specs.Bytes.{Appended, AppendedPart}
 use Rattle.sp_gen.specs.Models.{generated_text}
 use Rattle.sp_words.specs.declared.job.PlanWords.{PlanWords}
 use Rattle.sp_words.specs.declared.job.Job.{Job}
-use Rattle.sp_words.specs.declared.job.Job.TheVariants.{Plan, Check, Gen, Trial}
+use Rattle.sp_words.specs.declared.job.Job.TheVariants.{Plan, Check, Show, Gen, Trial}
 use Rattle.sp_words.specs.Jobs.{Asks}
 use Rattle.sp_tool.specs.Table.{model_limit, names, Accepts, Bars, Allows, Grants, Refuses, Told, Saw, Holds, Call, Cause, Tells, NoFault, Answers}
 use Rattle.sp_tool.specs.declared.status.Status.{Status}
@@ -18,7 +19,9 @@ use Rattle.sp_tool.specs.Faults.{status_of, line_of, TellsRefusal, HindersFile, 
 use Rattle.sp_tool.specs.declared.fault.Fault.{Fault}
 use Rattle.sp_tool.specs.declared.fault.Fault.TheVariants as Faults
 use Rattle.sp_words.proofs.OneJob.{same_job}
+use Rattle.sp_reader.specs.Sources.{Reads}
 use Rattle.sp_reader.proofs.SourceLemmas.{not_refused}
+use Rattle.sp_generated.proofs.Models.{generated_models}
 
 -- some content that is as told and longer than the limit
 pub some_longer : (content : Option (List ℕ)) (limit : ℕ) → ((bytes : List ℕ) → content ≡ Some bytes → limit < length bytes) → (bytes : List ℕ) × Told content bytes × (limit < length bytes)
@@ -42,9 +45,12 @@ granted (Plan p) (source ∷ (next ∷ more)) text may = elim may [ ]
 granted (Check name) [] text may = elim may [ ]
 granted (Check name) (source ∷ []) text may = (may.0, (may.1.0, may.1.1, tt))
 granted (Check name) (source ∷ (next ∷ more)) text may = elim may [ ]
+granted (Show name) [] text may = elim may [ ]
+granted (Show name) (source ∷ []) text may = (may.0, (may.1.0, may.1.1, tt))
+granted (Show name) (source ∷ (next ∷ more)) text may = elim may [ ]
 granted (Gen number) [] text may = tt
 granted (Gen number) (source ∷ more) text may = elim may [ ]
-granted (Trial number) [] text may = (may.0, may.1)
+granted (Trial number) [] text may = tt
 granted (Trial number) (source ∷ more) text may = elim may [ ]
 
 -- a job has read the files that it names where its files are accepted or refused
@@ -55,6 +61,9 @@ granted_length (Plan p) (source ∷ (next ∷ more)) may = elim may [ ]
 granted_length (Check name) [] may = elim may [ ]
 granted_length (Check name) (source ∷ []) may = refl
 granted_length (Check name) (source ∷ (next ∷ more)) may = elim may [ ]
+granted_length (Show name) [] may = elim may [ ]
+granted_length (Show name) (source ∷ []) may = refl
+granted_length (Show name) (source ∷ (next ∷ more)) may = elim may [ ]
 granted_length (Gen number) [] may = refl
 granted_length (Gen number) (source ∷ more) may = elim may [ ]
 granted_length (Trial number) [] may = refl
@@ -67,9 +76,12 @@ refused_length (Plan p) (source ∷ (next ∷ more)) line bars = elim bars [ ]
 refused_length (Check name) [] line bars = elim bars [ ]
 refused_length (Check name) (source ∷ []) line bars = refl
 refused_length (Check name) (source ∷ (next ∷ more)) line bars = elim bars [ ]
+refused_length (Show name) [] line bars = elim bars [ ]
+refused_length (Show name) (source ∷ []) line bars = refl
+refused_length (Show name) (source ∷ (next ∷ more)) line bars = elim bars [ ]
 refused_length (Gen number) [] line bars = elim bars [ ]
 refused_length (Gen number) (source ∷ more) line bars = elim bars [ ]
-refused_length (Trial number) [] line bars = refl
+refused_length (Trial number) [] line bars = elim bars [ ]
 refused_length (Trial number) (source ∷ more) line bars = elim bars [ ]
 
 -- what is accepted isn't refused
@@ -84,9 +96,12 @@ not_both (Plan p) (source ∷ (next ∷ more)) line may bars = elim may [ ]
 not_both (Check name) [] line may bars = elim may [ ]
 not_both (Check name) (source ∷ []) line may bars = not_barred name source line may bars
 not_both (Check name) (source ∷ (next ∷ more)) line may bars = elim may [ ]
+not_both (Show name) [] line may bars = elim may [ ]
+not_both (Show name) (source ∷ []) line may bars = not_barred name source line may bars
+not_both (Show name) (source ∷ (next ∷ more)) line may bars = elim may [ ]
 not_both (Gen number) [] line may bars = elim bars [ ]
 not_both (Gen number) (source ∷ more) line may bars = elim bars [ ]
-not_both (Trial number) [] line may bars = not_refused (generated_text number) may.0 bars.0 bars.1.0 may.1 bars.1.1
+not_both (Trial number) [] line may bars = elim bars [ ]
 not_both (Trial number) (source ∷ more) line may bars = elim may [ ]
 
 -- the bytes of the files as they are told are those that were seen
@@ -197,13 +212,27 @@ check_hindered name store later (Faults.ReadFault line) h = (name, (0, omega ari
 check_hindered name store later Faults.Usage h = elim h [ ]
 check_hindered name store later Faults.WriteFault h = elim h [ ]
 
--- a generated text that is refused hinders its trial
-pub trial_hindered : (number : ℕ) (source : List ℕ) (store later : Folder) (fault : Fault) → source ≡ generated_text number → TellsRefusal (codes "generated") source fault → Hinders (Trial number) store later fault
-trial_hindered number source store later Faults.NoMemory is h = tt
-trial_hindered number source store later (Faults.Refused line) is h = ([], tt, rw is at h)
-trial_hindered number source store later (Faults.ReadFault line) is h = elim h [ ]
-trial_hindered number source store later Faults.Usage is h = elim h [ ]
-trial_hindered number source store later Faults.WriteFault is h = elim h [ ]
+pub show_hindered : (name : List ℕ) (store later : Folder) (fault : Fault) → HindersFile name store later fault → Hinders (Show name) store later fault
+show_hindered name store later Faults.NoMemory h = tt
+show_hindered name store later (Faults.Refused line) h = (h.0 ∷ [], (h.1, tt), h.2)
+show_hindered name store later (Faults.ReadFault line) h = (name, (0, omega arith, refl), h.0, h.1)
+show_hindered name store later Faults.Usage h = elim h [ ]
+show_hindered name store later Faults.WriteFault h = elim h [ ]
+
+-- what holds of a value that is handed on
+pub on_kept : {T E F : Type 0} (P : T → Type 0) (text : Result T E) (result : Result T F) (e : F) → MatchResult text (λ t. result ≡ Ok t) (λ x. result ≡ Err e) → IfOk text P → IfOk result P
+on_kept P (Ok t) result e h p = subst (λ r. IfOk r P) (sym h) p
+on_kept P (Err x) result e h p = subst (λ r. IfOk r P) (sym h) tt
+
+-- no generated text is refused
+pub generated_fault : (number : ℕ) (file source : List ℕ) (fault : Fault) → number ≤ 16 → source ≡ generated_text number → TellsRefusal file source fault → fault ≡ Faults.NoMemory
+generated_fault number file source Faults.NoMemory few is h = refl
+generated_fault number file source (Faults.Refused line) few is h =
+    let means = generated_models number few in
+    absurd (not_refused source means.model h.0 h.1.0 (subst (λ bytes. Reads bytes means.model) (sym is) means.reads) h.1.1)
+generated_fault number file source (Faults.ReadFault line) few is h = elim h [ ]
+generated_fault number file source Faults.Usage few is h = elim h [ ]
+generated_fault number file source Faults.WriteFault few is h = elim h [ ]
 
 -- what refuses the bytes of a file hinders its model
 pub file_hindered : (file source : List ℕ) (store later : Folder) (fault : Fault) → Told (store.content file) source → length source ≤ model_limit → TellsRefusal file source fault → HindersFile file store later fault

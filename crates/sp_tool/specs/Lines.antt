@@ -5,7 +5,7 @@ use Rattle.std.specs.Fmt.{decimal}
 -- the words are those of no command
 abbrev pub usage_line : List ℕ
 usage_line =
-    codes "perseus: usage: perseus plan MODEL --beliefs N --depth D --stages N --seed S --workers 0 [--prune] [--explore uniform|sweep], perseus check MODEL, perseus gen NUMBER, or perseus trial NUMBER\n"
+    codes "perseus: usage: perseus plan MODEL --beliefs N --depth D --stages N --seed S --workers 0 [--prune] [--explore uniform|sweep], perseus check MODEL, perseus show MODEL, perseus gen NUMBER, or perseus trial NUMBER\n"
 
 abbrev pub no_memory_line : List ℕ
 no_memory_line = codes "perseus: out of memory\n"

@@ -1,14 +1,16 @@
 -- Which status a call may give, and what it writes.
-use Rattle.std.specs.Prelude.{◌≡◌, ℕ, ◌<◌, ◌≤◌, List, [], ◌∷◌, length, Option, Some, Contains, codes, ⊤, ◌⊎◌}
+use Rattle.std.specs.Prelude.{◌≡◌, ℕ, ◌<◌, ◌≤◌, List, [], ◌∷◌, length, Option, Some, Contains, ⊤, ◌⊎◌}
 use Rattle.sp_outside.specs.Folder.{Folder, IsLater}
 use Rattle.sp_outside.specs.Written.{Written}
 use Rattle.sp_outside.specs.Counts.{Rose}
 use Rattle.sp_outside.specs.Bytes.{Appended, AppendedPart, IfTold}
 use Rattle.sp_model.specs.declared.parts.Parts.{Parts}
 use Rattle.sp_gen.specs.Models.{generated_text}
+use Rattle.sp_spelled.specs.Signs.{printed}
+use Rattle.sp_canonical.specs.ModelSigns.{model_signs}
 use Rattle.sp_reader.specs.Sources.{Reads, IsFaulty}
 use Rattle.sp_words.specs.declared.job.Job.{Job}
-use Rattle.sp_words.specs.declared.job.Job.TheVariants.{Plan, Check, Gen, Trial}
+use Rattle.sp_words.specs.declared.job.Job.TheVariants.{Plan, Check, Show, Gen, Trial}
 use Rattle.sp_words.specs.Jobs.{Asks}
 use Rattle.sp_tool.specs.Lines.{usage_line, no_memory_line, cannot_write_line, cannot_read_line, too_long_line, refused_line}
 use Rattle.sp_tool.specs.Texts.{check_line, IsPlanText, IsTrialText}
@@ -23,6 +25,7 @@ model_limit = 16777216
 abbrev pub names : Job → List (List ℕ)
 names (Plan p) = p.model ∷ []
 names (Check model) = model ∷ []
+names (Show model) = model ∷ []
 names (Gen number) = []
 names (Trial number) = []
 
@@ -44,23 +47,25 @@ Bars file source line =
 abbrev pub Allows : Job → List (List ℕ) → List ℕ → Type 0
 Allows (Plan p) (source ∷ []) text = Accepts source (λ model. IsPlanText model p text)
 Allows (Check name) (source ∷ []) text = Accepts source (λ model. text ≡ check_line model)
+Allows (Show name) (source ∷ []) text = Accepts source (λ model. text ≡ printed (model_signs model))
 Allows (Gen number) [] text = text ≡ generated_text number
 Allows (Trial number) [] text = (model : Parts) × Reads (generated_text number) model × IsTrialText model number text
 Allows job files text = ⊥
 
--- the bytes of the file that a job names are accepted; for a trial the generated text is
+-- the bytes of the file that a job names are accepted; a generated text always is
 abbrev pub Grants : Job → List (List ℕ) → Type 0
 Grants (Plan p) (source ∷ []) = Accepts source (λ model. ⊤)
 Grants (Check name) (source ∷ []) = Accepts source (λ model. ⊤)
+Grants (Show name) (source ∷ []) = Accepts source (λ model. ⊤)
 Grants (Gen number) [] = ⊤
-Grants (Trial number) [] = (model : Parts) × Reads (generated_text number) model
+Grants (Trial number) [] = ⊤
 Grants job files = ⊥
 
--- the last of these bytes is refused, which this line tells; for a trial it is the generated text
+-- the last of these bytes is refused, which this line tells
 abbrev pub Refuses : Job → List (List ℕ) → List ℕ → Type 0
 Refuses (Plan p) (source ∷ []) line = Bars p.model source line
 Refuses (Check name) (source ∷ []) line = Bars name source line
-Refuses (Trial number) [] line = TellsFault (codes "generated") (generated_text number) line
+Refuses (Show name) (source ∷ []) line = Bars name source line
 Refuses job files line = ⊥
 
 -- where the store tells a content, it is this

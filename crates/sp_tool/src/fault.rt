@@ -58,7 +58,7 @@ impl Fault {
     {
         match self {
             Fault::Usage =>
-                b"perseus: usage: perseus plan MODEL --beliefs N --depth D --stages N --seed S --workers 0 [--prune] [--explore uniform|sweep], perseus check MODEL, perseus gen NUMBER, or perseus trial NUMBER\n",
+                b"perseus: usage: perseus plan MODEL --beliefs N --depth D --stages N --seed S --workers 0 [--prune] [--explore uniform|sweep], perseus check MODEL, perseus show MODEL, perseus gen NUMBER, or perseus trial NUMBER\n",
             Fault::NoMemory => b"perseus: out of memory\n",
             Fault::Refused(line) => line.as_slice(),
             Fault::ReadFault(line) => line.as_bytes(),

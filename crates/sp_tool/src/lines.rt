@@ -1,6 +1,7 @@
 //! The lines that are told on err.
 
-ghost use Rattle.std.specs.Prelude.{◌≡◌, IfOk, string_bytes};
+ghost use Rattle.std.specs.Prelude.{◌≡◌, ◌++◌, codes, IfOk, OnOk, string_bytes};
+ghost use Rattle.std.specs.Fmt.{decimal};
 ghost use Rattle.sp_tool.specs.Lines.{too_long_line, refused_line, cannot_read_line};
 
 use std::alloc::{AllocError, Global};
@@ -22,11 +23,26 @@ pub fn write_refused_line(
 ) -> Result<Vec<u8>, AllocError>
     ensures { IfOk result (λ line. line.items ≡ refused_line file.now at kind.now) }
 {
-    let front = format!(in alloc; "perseus: refused: {file}: byte {at}: ")?;
-    let mut line = front.into_bytes();
-    line.extend_from_slice(kind)?;
-    line.extend_from_slice(b"\n")?;
+    let mut line = refused_front(alloc, file, at)?;
+    push_line(&mut line, kind)?;
     Ok(line)
+}
+
+/// That line up to its kind.
+fn refused_front(alloc: Global, file: &str, at: u64) -> Result<Vec<u8>, AllocError>
+    ensures { IfOk result (λ line. line.items ≡ codes "perseus: refused: " ++ (file.now ++ (codes ": byte " ++ (decimal at ++ codes ": ")))) }
+{
+    let front = format!(in alloc; "perseus: refused: {file}: byte {at}: ")?;
+    Ok(front.into_bytes())
+}
+
+/// Adds bytes and a line's end.
+fn push_line(line: &mut Vec<u8>, bytes: &[u8]) -> Result<(), AllocError>
+    ensures { OnOk result (line.new.items ≡ (line.old.items ++ bytes.now) ++ codes "\n") }
+{
+    line.extend_from_slice(bytes)?;
+    line.extend_from_slice(b"\n")?;
+    Ok(())
 }
 
 /// The line for a file that can't be read.

@@ -20,8 +20,8 @@ use sp_words::PlanWords;
 use std::alloc::{AllocError, Global};
 
 /// The numbers of a model.
-pub fn check_text(alloc: Global, model: &Model) -> Result<String, NoMemory>
-    ensures { IfOk result (λ text. string_bytes text ≡ check_line model.now) }
+pub fn check_text(alloc: Global, model: &Model) -> Result<Vec<u8>, NoMemory>
+    ensures { IfOk result (λ text. text.items ≡ check_line model.now) }
 {
     let mut text = counts_text(
         alloc,
@@ -32,7 +32,7 @@ pub fn check_text(alloc: Global, model: &Model) -> Result<String, NoMemory>
     )?;
     let range = range_text(alloc, model.least_return(), model.tick_bound())?;
     text.push_str(range.as_str())?;
-    Ok(text)
+    Ok(text.into_bytes())
 }
 
 /// How many variables, states, joint observations and actions there are.
@@ -65,15 +65,15 @@ pub fn plan_text(
     model: Model,
     words: &PlanWords,
     choosers: Vec<Box<dyn Chooser + Send>>,
-) -> Result<String, NoMemory>
+) -> Result<Vec<u8>, NoMemory>
     requires words { ArePlanNumbers words.now }
     requires choosers { map (λ b. machine b) choosers.items ≡ uniform ∷ sweep 0 ∷ [] }
-    ensures { IfOk result (λ text. IsPlanText model words.now (string_bytes text)) }
+    ensures { IfOk result (λ text. IsPlanText model words.now text.items) }
 {
     let chooser = picked(choosers, words.sweep);
     let run = plan(alloc, model, options(words), chooser)?;
     let text = run_text(alloc, &run)?;
-    Ok(text)
+    Ok(text.into_bytes())
 }
 
 /// The options that words ask for.
@@ -113,9 +113,9 @@ pub fn trial_text(
     model: Model,
     number: u64,
     choosers: Vec<Box<dyn Chooser + Send>>,
-) -> Result<String, NoMemory>
+) -> Result<Vec<u8>, NoMemory>
     requires choosers { map (λ b. machine b) choosers.items ≡ uniform ∷ sweep 0 ∷ [] }
-    ensures { IfOk result (λ text. IsTrialText model number (string_bytes text)) }
+    ensures { IfOk result (λ text. IsTrialText model number text.items) }
 {
     let states = model.state_count();
     let options = Options {
@@ -138,13 +138,13 @@ fn trial_summary(
     number: u64,
     states: u64,
     summary: &Summary,
-) -> Result<String, NoMemory>
-    ensures { IfOk result (λ text. string_bytes text ≡ trial_lines number states summary.now) }
+) -> Result<Vec<u8>, NoMemory>
+    ensures { IfOk result (λ text. text.items ≡ trial_lines number states summary.now) }
 {
     let mut text = trial_front(alloc, number, states, summary.records)?;
     let back = trial_back(alloc, summary.editions, summary.members, summary.value)?;
     text.push_str(back.as_str())?;
-    Ok(text)
+    Ok(text.into_bytes())
 }
 
 /// The lines of a trial up to its records.

@@ -4,7 +4,7 @@ use Rattle.sp_words.specs.Items.{Item, items_on}
 use Rattle.sp_words.specs.Jobs.{plan_names, IsPlan, IsPlanned, IsNumberAlone, AsksBehind, command_of}
 use Rattle.sp_words.specs.declared.job.PlanWords.{PlanWords}
 use Rattle.sp_words.specs.declared.job.Job.{Job}
-use Rattle.sp_words.specs.declared.job.Job.TheVariants.{Plan, Check, Gen, Trial}
+use Rattle.sp_words.specs.declared.job.Job.TheVariants.{Plan, Check, Show, Gen, Trial}
 use Rattle.sp_words.proofs.ItemLemmas.{items_complete, items_sound}
 
 -- words that begin otherwise are different
@@ -22,18 +22,21 @@ plan_read rest items p reads is =
 pub plan_only : (P : Job → Type 0) → ((p : PlanWords) → ¬ (P (Plan p))) → (job : Job) → command_of job ≡ codes "plan" → ¬ (P job)
 plan_only P none (Plan p) e is = none p is
 plan_only P none (Check model) e is = differs (codes "check") (codes "plan") e (omega arith)
+plan_only P none (Show model) e is = differs (codes "plan") (codes "show") (sym e) (omega arith)
 plan_only P none (Gen number) e is = differs (codes "gen") (codes "plan") e (omega arith)
 plan_only P none (Trial number) e is = differs (codes "plan") (codes "trial") (sym e) (omega arith)
 
 pub gen_only : (P : Job → Type 0) → ((n : ℕ) → ¬ (P (Gen n))) → (job : Job) → command_of job ≡ codes "gen" → ¬ (P job)
 gen_only P none (Plan p) e is = differs (codes "gen") (codes "plan") (sym e) (omega arith)
 gen_only P none (Check model) e is = differs (codes "check") (codes "gen") e (omega arith)
+gen_only P none (Show model) e is = differs (codes "gen") (codes "show") (sym e) (omega arith)
 gen_only P none (Gen number) e is = none number is
 gen_only P none (Trial number) e is = differs (codes "gen") (codes "trial") (sym e) (omega arith)
 
 pub trial_only : (P : Job → Type 0) → ((n : ℕ) → ¬ (P (Trial n))) → (job : Job) → command_of job ≡ codes "trial" → ¬ (P job)
 trial_only P none (Plan p) e is = differs (codes "plan") (codes "trial") e (omega arith)
 trial_only P none (Check model) e is = differs (codes "check") (codes "trial") e (omega arith)
+trial_only P none (Show model) e is = differs (codes "show") (codes "trial") e (omega arith)
 trial_only P none (Gen number) e is = differs (codes "gen") (codes "trial") e (omega arith)
 trial_only P none (Trial number) e is = none number is
 

@@ -7,7 +7,7 @@ use Rattle.sp_words.specs.Apps.{tool_app}
 use Rattle.sp_words.specs.Jobs.{plan_names, IsPlan, HasExplore, IsPlanned, IsNumberAlone, IsPlacedAlone, AsksBehind, AsksByList, GivesNumber, GivesPlan, Gives, AsksByParser, AskOnce, command_of}
 use Rattle.sp_words.specs.declared.job.PlanWords.{PlanWords}
 use Rattle.sp_words.specs.declared.job.Job.{Job}
-use Rattle.sp_words.specs.declared.job.Job.TheVariants.{Plan, Check, Gen, Trial}
+use Rattle.sp_words.specs.declared.job.Job.TheVariants.{Plan, Check, Show, Gen, Trial}
 use Rattle.sp_words.proofs.ItemLemmas.{same_items}
 use Rattle.sp_words.proofs.JobLemmas.{differs}
 
@@ -75,25 +75,34 @@ one_alone rest m n one two =
     sym one.2.value ∙ ap (digits_value 10) same ∙ two.2.value
 
 -- jobs of one command are the same, where those of each command are
-one_by : (P : Job → Type 0) → ((p q : PlanWords) → P (Plan p) → P (Plan q) → p ≡ q) → ((x y : List ℕ) → P (Check x) → P (Check y) → x ≡ y)
+one_by : (P : Job → Type 0) → ((p q : PlanWords) → P (Plan p) → P (Plan q) → p ≡ q) → ((x y : List ℕ) → P (Check x) → P (Check y) → x ≡ y) → ((x y : List ℕ) → P (Show x) → P (Show y) → x ≡ y)
     → ((m n : ℕ) → P (Gen m) → P (Gen n) → m ≡ n) → ((m n : ℕ) → P (Trial m) → P (Trial n) → m ≡ n)
     → (job other : Job) → command_of job ≡ command_of other → P job → P other → job ≡ other
-one_by P plans checks gens trials (Plan p) (Plan q) e one two = ap Plan (plans p q one two)
-one_by P plans checks gens trials (Plan p) (Check model) e one two = absurd (differs (codes "check") (codes "plan") (sym e) (omega arith))
-one_by P plans checks gens trials (Plan p) (Gen n) e one two = absurd (differs (codes "gen") (codes "plan") (sym e) (omega arith))
-one_by P plans checks gens trials (Plan p) (Trial n) e one two = absurd (differs (codes "plan") (codes "trial") e (omega arith))
-one_by P plans checks gens trials (Check model) (Plan q) e one two = absurd (differs (codes "check") (codes "plan") e (omega arith))
-one_by P plans checks gens trials (Check model) (Check other) e one two = ap Check (checks model other one two)
-one_by P plans checks gens trials (Check model) (Gen n) e one two = absurd (differs (codes "check") (codes "gen") e (omega arith))
-one_by P plans checks gens trials (Check model) (Trial n) e one two = absurd (differs (codes "check") (codes "trial") e (omega arith))
-one_by P plans checks gens trials (Gen m) (Plan q) e one two = absurd (differs (codes "gen") (codes "plan") e (omega arith))
-one_by P plans checks gens trials (Gen m) (Check other) e one two = absurd (differs (codes "check") (codes "gen") (sym e) (omega arith))
-one_by P plans checks gens trials (Gen m) (Gen n) e one two = ap Gen (gens m n one two)
-one_by P plans checks gens trials (Gen m) (Trial n) e one two = absurd (differs (codes "gen") (codes "trial") e (omega arith))
-one_by P plans checks gens trials (Trial m) (Plan q) e one two = absurd (differs (codes "plan") (codes "trial") (sym e) (omega arith))
-one_by P plans checks gens trials (Trial m) (Check other) e one two = absurd (differs (codes "check") (codes "trial") (sym e) (omega arith))
-one_by P plans checks gens trials (Trial m) (Gen n) e one two = absurd (differs (codes "gen") (codes "trial") (sym e) (omega arith))
-one_by P plans checks gens trials (Trial m) (Trial n) e one two = ap Trial (trials m n one two)
+one_by P plans checks shows gens trials (Plan p) (Plan q) e one two = ap Plan (plans p q one two)
+one_by P plans checks shows gens trials (Plan p) (Check y) e one two = absurd (differs (codes "check") (codes "plan") (sym e) (omega arith))
+one_by P plans checks shows gens trials (Plan p) (Show y) e one two = absurd (differs (codes "plan") (codes "show") e (omega arith))
+one_by P plans checks shows gens trials (Plan p) (Gen n) e one two = absurd (differs (codes "gen") (codes "plan") (sym e) (omega arith))
+one_by P plans checks shows gens trials (Plan p) (Trial n) e one two = absurd (differs (codes "plan") (codes "trial") e (omega arith))
+one_by P plans checks shows gens trials (Check x) (Plan q) e one two = absurd (differs (codes "check") (codes "plan") e (omega arith))
+one_by P plans checks shows gens trials (Check x) (Check y) e one two = ap Check (checks x y one two)
+one_by P plans checks shows gens trials (Check x) (Show y) e one two = absurd (differs (codes "check") (codes "show") e (omega arith))
+one_by P plans checks shows gens trials (Check x) (Gen n) e one two = absurd (differs (codes "check") (codes "gen") e (omega arith))
+one_by P plans checks shows gens trials (Check x) (Trial n) e one two = absurd (differs (codes "check") (codes "trial") e (omega arith))
+one_by P plans checks shows gens trials (Show x) (Plan q) e one two = absurd (differs (codes "plan") (codes "show") (sym e) (omega arith))
+one_by P plans checks shows gens trials (Show x) (Check y) e one two = absurd (differs (codes "check") (codes "show") (sym e) (omega arith))
+one_by P plans checks shows gens trials (Show x) (Show y) e one two = ap Show (shows x y one two)
+one_by P plans checks shows gens trials (Show x) (Gen n) e one two = absurd (differs (codes "gen") (codes "show") (sym e) (omega arith))
+one_by P plans checks shows gens trials (Show x) (Trial n) e one two = absurd (differs (codes "show") (codes "trial") e (omega arith))
+one_by P plans checks shows gens trials (Gen m) (Plan q) e one two = absurd (differs (codes "gen") (codes "plan") e (omega arith))
+one_by P plans checks shows gens trials (Gen m) (Check y) e one two = absurd (differs (codes "check") (codes "gen") (sym e) (omega arith))
+one_by P plans checks shows gens trials (Gen m) (Show y) e one two = absurd (differs (codes "gen") (codes "show") e (omega arith))
+one_by P plans checks shows gens trials (Gen m) (Gen n) e one two = ap Gen (gens m n one two)
+one_by P plans checks shows gens trials (Gen m) (Trial n) e one two = absurd (differs (codes "gen") (codes "trial") e (omega arith))
+one_by P plans checks shows gens trials (Trial m) (Plan q) e one two = absurd (differs (codes "plan") (codes "trial") (sym e) (omega arith))
+one_by P plans checks shows gens trials (Trial m) (Check y) e one two = absurd (differs (codes "check") (codes "trial") (sym e) (omega arith))
+one_by P plans checks shows gens trials (Trial m) (Show y) e one two = absurd (differs (codes "show") (codes "trial") (sym e) (omega arith))
+one_by P plans checks shows gens trials (Trial m) (Gen n) e one two = absurd (differs (codes "gen") (codes "trial") (sym e) (omega arith))
+one_by P plans checks shows gens trials (Trial m) (Trial n) e one two = ap Trial (trials m n one two)
 
 one_planned : (rest : List (List ℕ)) (p q : PlanWords) → IsPlanned rest p → IsPlanned rest q → p ≡ q
 one_planned rest p q one two =
@@ -107,7 +116,7 @@ same_listed words job other one two =
     let command : command_of job ≡ command_of other = cc (one.command, two.command) in
     let rest : two.rest ≡ one.rest = cc (one.command, two.command) in
     let behind : AsksBehind one.rest other = rw rest at two.behind in
-    one_by (AsksBehind one.rest) (one_planned one.rest) (one_place one.rest) (one_alone one.rest) (one_alone one.rest) job other command one.behind behind
+    one_by (AsksBehind one.rest) (one_planned one.rest) (one_place one.rest) (one_place one.rest) (one_alone one.rest) (one_alone one.rest) job other command one.behind behind
 
 -- ---- words that the parser takes
 same_text : (found : Option (List ℕ)) (x y : List ℕ) → found ≡ Some x → found ≡ Some y → x ≡ y
@@ -143,7 +152,7 @@ one_given_plan rows p q one two =
 
 -- the same matches of one command give the same job
 one_gives : (rows : List Row) (job other : Job) → command_of job ≡ command_of other → Gives rows job → Gives rows other → job ≡ other
-one_gives rows = one_by (Gives rows) (one_given_plan rows) (same_text (first_of (codes "model") rows)) (one_given rows (codes "number") 0 16) (one_given rows (codes "number") 0 16)
+one_gives rows = one_by (Gives rows) (one_given_plan rows) (same_text (first_of (codes "model") rows)) (same_text (first_of (codes "model") rows)) (one_given rows (codes "number") 0 16) (one_given rows (codes "number") 0 16)
 
 same_entry : (entry : Option (List ℕ × List Row)) (a b : List ℕ) (x y : List Row) → entry ≡ Some (a, x) → entry ≡ Some (b, y) → (a ≡ b) × (x ≡ y)
 same_entry entry a b x y one two = let both : ◌≡◌ {A = Option (List ℕ × List Row)} (Some (a, x)) (Some (b, y)) = sym one ∙ two in

@@ -36,6 +36,6 @@ top_app = record { top = record (new_app (codes "perseus")).top { no_binary_name
 
 abbrev pub tool_app : App
 tool_app =
-    with_subcommand (with_subcommand (with_subcommand (with_subcommand top_app plan_app.top)
-    (place_app (codes "check") (codes "model")).top) (place_app (codes "gen") (codes "number")).top)
-    (place_app (codes "trial") (codes "number")).top
+    with_subcommand (with_subcommand (with_subcommand (with_subcommand (with_subcommand top_app plan_app.top)
+    (place_app (codes "check") (codes "model")).top) (place_app (codes "show") (codes "model")).top)
+    (place_app (codes "gen") (codes "number")).top) (place_app (codes "trial") (codes "number")).top

@@ -6,7 +6,7 @@ use Rattle.sp_words.specs.Items.{Item, words_of, places, values, is_name, Names,
 use Rattle.sp_words.specs.Apps.{tool_app}
 use Rattle.sp_words.specs.declared.job.PlanWords.{PlanWords}
 use Rattle.sp_words.specs.declared.job.Job.{Job}
-use Rattle.sp_words.specs.declared.job.Job.TheVariants.{Plan, Check, Gen, Trial}
+use Rattle.sp_words.specs.declared.job.Job.TheVariants.{Plan, Check, Show, Gen, Trial}
 
 -- the actions are explored in turn, or at random, which is also what no word means
 abbrev pub HasExplore : List Item → Bool → Type 0
@@ -30,6 +30,7 @@ pub record IsPlan (items : List Item) (plan : PlanWords) : Type 0 where
 abbrev pub command_of : Job → List ℕ
 command_of (Plan plan) = codes "plan"
 command_of (Check model) = codes "check"
+command_of (Show model) = codes "show"
 command_of (Gen number) = codes "gen"
 command_of (Trial number) = codes "trial"
 
@@ -59,6 +60,7 @@ pub record IsPlanned (rest : List (List ℕ)) (plan : PlanWords) : Type 0 where
 abbrev pub AsksBehind : List (List ℕ) → Job → Type 0
 AsksBehind rest (Plan plan) = IsPlanned rest plan
 AsksBehind rest (Check model) = IsPlacedAlone rest model
+AsksBehind rest (Show model) = IsPlacedAlone rest model
 AsksBehind rest (Gen number) = IsNumberAlone rest number
 AsksBehind rest (Trial number) = IsNumberAlone rest number
 
@@ -89,6 +91,7 @@ pub record GivesPlan (rows : List Row) (plan : PlanWords) : Type 0 where
 abbrev pub Gives : List Row → Job → Type 0
 Gives rows (Plan plan) = GivesPlan rows plan
 Gives rows (Check model) = first_of (codes "model") rows ≡ Some model
+Gives rows (Show model) = first_of (codes "model") rows ≡ Some model
 Gives rows (Gen number) = GivesNumber rows (codes "number") 0 16 number
 Gives rows (Trial number) = GivesNumber rows (codes "number") 0 16 number
 
@@ -122,6 +125,7 @@ pub record ArePlanNumbers (plan : PlanWords) : Type 0 where
 abbrev pub IsPossible : Job → Type 0
 IsPossible (Plan plan) = ArePlanNumbers plan
 IsPossible (Check model) = Unit {0}
+IsPossible (Show model) = Unit {0}
 IsPossible (Gen number) = number ≤ 16
 IsPossible (Trial number) = number ≤ 16
 

@@ -91,8 +91,10 @@ fn tool_command<'a>(alloc: Global) -> Result<Command<'a>, AllocError>
     let with_plan = top_command(alloc).subcommand(plan)?;
     let check = place_command(alloc, "check", "model")?;
     let with_check = with_plan.subcommand(check)?;
+    let show = place_command(alloc, "show", "model")?;
+    let with_show = with_check.subcommand(show)?;
     let generate = place_command(alloc, "gen", "number")?;
-    let with_generate = with_check.subcommand(generate)?;
+    let with_generate = with_show.subcommand(generate)?;
     let trial = place_command(alloc, "trial", "number")?;
     with_generate.subcommand(trial)
 }

@@ -64,6 +64,8 @@ pub enum Job {
     Plan(PlanWords),
     /// Judge a model file.
     Check { model: Name },
+    /// Write the canonical text of a model file.
+    Show { model: Name },
     /// Write the generated model of a number.
     Gen { number: u64 },
     /// Plan for the generated model of a number, and write a summary.

@@ -38,6 +38,9 @@ fn read_listed(alloc: Global, words: &[String]) -> Result<Job, WordsError>
     if let Some(rest) = words_behind(words, "check") {
         return check(alloc, rest);
     }
+    if let Some(rest) = words_behind(words, "show") {
+        return show(alloc, rest);
+    }
     if let Some(rest) = words_behind(words, "gen") {
         return generate(rest);
     }
@@ -174,17 +177,39 @@ fn place_behind<'a>(words: &'a [String]) -> Option<&'a str>
     }
 }
 
+/// The name of the model file behind a command without options.
+fn model_behind(alloc: Global, words: &[String]) -> Result<Name, WordsError>
+    ensures asks { IfOk result (λ model. IsPlacedAlone (map string_bytes words.now) model) }
+    ensures usage { result ≡ Err WordsError.Usage → (model : List ℕ) → ¬ (IsPlacedAlone (map string_bytes words.now) model) }
+{
+    match place_behind(words) {
+        Some(model) => {
+            let model = Name::new(alloc, model)?;
+            Ok(model)
+        }
+        None => Err(WordsError::Usage),
+    }
+}
+
 /// The check that the words behind the command ask for.
 fn check(alloc: Global, words: &[String]) -> Result<Job, WordsError>
     ensures asks { IfOk result (λ job. (command_of job ≡ codes "check") × AsksBehind (map string_bytes words.now) job) }
     ensures usage { result ≡ Err WordsError.Usage → (job : Job) → command_of job ≡ codes "check" → ¬ (AsksBehind (map string_bytes words.now) job) }
 {
-    match place_behind(words) {
-        Some(model) => {
-            let model = Name::new(alloc, model)?;
-            Ok(Job::Check { model })
-        }
-        None => Err(WordsError::Usage),
+    match model_behind(alloc, words) {
+        Ok(model) => Ok(Job::Check { model }),
+        Err(error) => Err(error),
+    }
+}
+
+/// The canonical text that the words behind the command ask for.
+fn show(alloc: Global, words: &[String]) -> Result<Job, WordsError>
+    ensures asks { IfOk result (λ job. (command_of job ≡ codes "show") × AsksBehind (map string_bytes words.now) job) }
+    ensures usage { result ≡ Err WordsError.Usage → (job : Job) → command_of job ≡ codes "show" → ¬ (AsksBehind (map string_bytes words.now) job) }
+{
+    match model_behind(alloc, words) {
+        Ok(model) => Ok(Job::Show { model }),
+        Err(error) => Err(error),
     }
 }
 

@@ -48,6 +48,9 @@ fn job_of(alloc: Global, command: &str, matches: &ArgMatches<'_>) -> Result<Job,
     if command == "check" {
         return check_of(alloc, matches);
     }
+    if command == "show" {
+        return show_of(alloc, matches);
+    }
     if command == "gen" {
         return match number_at(matches, "number", 0, 16) {
             Some(number) => Ok(Job::Gen { number }),
@@ -63,17 +66,39 @@ fn job_of(alloc: Global, command: &str, matches: &ArgMatches<'_>) -> Result<Job,
     Err(WordsError::Usage)
 }
 
+/// The name of the model file that matches give.
+fn model_of(alloc: Global, matches: &ArgMatches<'_>) -> Result<Name, WordsError>
+    ensures asks { IfOk result (λ model. first_of (codes "model") (rows_of (found_of matches.now)) ≡ Some model) }
+    ensures usage { result ≡ Err WordsError.Usage → first_of (codes "model") (rows_of (found_of matches.now)) ≡ None }
+{
+    match text_at(matches, "model") {
+        Some(model) => {
+            let model = Name::new(alloc, model)?;
+            Ok(model)
+        }
+        None => Err(WordsError::Usage),
+    }
+}
+
 /// The check that matches give.
 fn check_of(alloc: Global, matches: &ArgMatches<'_>) -> Result<Job, WordsError>
     ensures asks { IfOk result (λ job. (command_of job ≡ codes "check") × Gives (rows_of (found_of matches.now)) job) }
     ensures usage { result ≡ Err WordsError.Usage → (job : Job) → command_of job ≡ codes "check" → ¬ (Gives (rows_of (found_of matches.now)) job) }
 {
-    match text_at(matches, "model") {
-        Some(model) => {
-            let model = Name::new(alloc, model)?;
-            Ok(Job::Check { model })
-        }
-        None => Err(WordsError::Usage),
+    match model_of(alloc, matches) {
+        Ok(model) => Ok(Job::Check { model }),
+        Err(error) => Err(error),
+    }
+}
+
+/// The canonical text that matches give.
+fn show_of(alloc: Global, matches: &ArgMatches<'_>) -> Result<Job, WordsError>
+    ensures asks { IfOk result (λ job. (command_of job ≡ codes "show") × Gives (rows_of (found_of matches.now)) job) }
+    ensures usage { result ≡ Err WordsError.Usage → (job : Job) → command_of job ≡ codes "show" → ¬ (Gives (rows_of (found_of matches.now)) job) }
+{
+    match model_of(alloc, matches) {
+        Ok(model) => Ok(Job::Show { model }),
+        Err(error) => Err(error),
     }
 }
 

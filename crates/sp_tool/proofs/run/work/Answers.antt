@@ -14,9 +14,9 @@ returns-in-Ok-write_whole-clause-cause g c =
         t.0,
         t.1,
         (
-          string_bytes c.in-Ok-text_for.text,
+          c.in-Ok-text_for.text.items,
           t.2,
-          (λ b e. c.in-Ok-write_whole.ensures.whole b e ∙ ap (λ l. Some (b ++ l)) c.as_bytes.ensures.value),
+          (λ b e. c.in-Ok-write_whole.ensures.whole b e ∙ ap (λ l. Some (b ++ l)) c.as_slice.ensures.value),
           refl,
         ),
       ),
@@ -25,14 +25,14 @@ returns-in-Ok-write_whole-clause-cause g c =
 pub returns-clause-cause : goal.returns-clause-cause
 returns-clause-cause g c =
     let t = c.in-Ok-text_for.ensures.text in
-    let part = rw c.as_bytes.ensures.value at c.in-Err-write_whole.ensures.part in (
+    let part = rw c.as_slice.ensures.value at c.in-Err-write_whole.ensures.part in (
       c.in-Ok.job,
       c.in-Ok.ensures.asks,
       (
         t.0,
         t.1,
         (
-          string_bytes c.in-Ok-text_for.text,
+          c.in-Ok-text_for.text.items,
           t.2,
           part,
           c.in-Err-write_whole.ensures.cause.failed,
