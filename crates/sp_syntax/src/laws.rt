@@ -21,8 +21,8 @@ pub fn refused_is_no_text(source: &[u8], tokens: &Tokens)
     ensures { (end : ℕ) (fault : Fault) → Refuses end (classes source.now tokens.now) fault → InGrammar (classes source.now tokens.now) → IsShallow (classes source.now tokens.now) → ⊥ }
 {}
 
-/// Places rise through a text: its tree holds the span of each token once, in the text's order, none is empty, and each
-/// begins behind the one before and ends within the source. It does nothing when it runs.
+/// Places rise through a text: of the spans in its tree, in the text's order, none is empty, and each begins behind the one before
+/// and ends within the source. It does nothing when it runs.
 #[tactic(auto, using(crate::proofs::SpanLemmas::spans_rise))]
 pub fn spans_rise(source: &[u8])
     ensures { (tokens : List Token) (text : Text) → tokens_of source.now ≡ Ok tokens → IsText text (classes source.now tokens) → AreRising 0 (text_spans text) (length source.now) }

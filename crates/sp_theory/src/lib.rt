@@ -90,8 +90,8 @@ pub fn dominated_may_go()
     ensures { DominatedMayGo }
 {}
 
-/// The dominated members of an edition are those that are nowhere above another one (of two equal ones the later), in order, all
-/// of them, each with the least id of such another one.
+/// The dominated members of an edition are those that are nowhere above another one (of two equal ones the one of the greater id),
+/// in order, all of them, each with the least id of such another one.
 pub fn dominated_are_those()
     ensures { DominatedAreThose }
 {}
