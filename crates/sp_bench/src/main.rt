@@ -4,8 +4,10 @@
 #![tactic(auto)]
 
 use sp_dd::{Diagram, Ids, NoMemory, Scope};
-use sp_ddops::{add, branch, constant, leaf_by, mul_floor, sum_out, weigh_out};
-use sp_yardstick::diagrams::{are_of, has_same_scope, has_slot, is_row, is_within};
+use sp_ddops::{add, below, branch, constant, dot, leaf_by, mul_floor, sum_out, weigh_out};
+use sp_yardstick::diagrams::{
+    are_of, are_weights, has_same_scope, has_slot, is_on_unprimed, is_row, is_within,
+};
 use sp_yardstick::scopes::is_shape;
 use std::alloc::Global;
 use std::process::ExitCode;
@@ -19,7 +21,12 @@ enum Operation {
     Weigh,
     Sum,
     Copy,
+    Dot,
+    Below,
 }
+
+/// How far from 0 leaves may be.
+const BOUND: u128 = 1 << 60;
 
 /// The operation of a word.
 fn operation_of(word: &str) -> Option<Operation> {
@@ -29,6 +36,8 @@ fn operation_of(word: &str) -> Option<Operation> {
         "weigh" => Some(Operation::Weigh),
         "sum" => Some(Operation::Sum),
         "copy" => Some(Operation::Copy),
+        "dot" => Some(Operation::Dot),
+        "below" => Some(Operation::Below),
         _ => None,
     }
 }
@@ -95,44 +104,84 @@ fn row(alloc: Global, scope: &Scope) -> Result<Diagram, NoMemory> {
     Ok(made)
 }
 
-/// The operation on two trees, or a copy of the first where it can't be made.
-fn made(
-    alloc: Global,
-    operation: Operation,
-    f: &Diagram,
-    g: &Diagram,
-    p: &Diagram,
-) -> Result<Diagram, NoMemory> {
-    let bound = 1 << 60;
-    if !has_same_scope(f, g) || !is_within(f, bound) || !is_within(g, bound) || !has_slot(f, 0) {
-        let same = f.copied(alloc)?;
-        return Ok(same);
+/// Sums of two trees.
+fn add_often(alloc: Global, f: &Diagram, g: &Diagram, times: u64) -> Result<(), NoMemory> {
+    if !has_same_scope(f, g) || !is_within(f, BOUND) || !is_within(g, BOUND) {
+        return Ok(());
     }
-    match operation {
-        Operation::Add => add(alloc, f, g),
-        Operation::Mul => mul_floor(alloc, f, g),
-        Operation::Sum => sum_out(alloc, f, 0),
-        Operation::Weigh => weighed(alloc, f, p),
-        Operation::Copy => f.copied(alloc),
+    for _ in 0..times {
+        let _ = add(alloc, f, g)?;
     }
+    Ok(())
 }
 
-/// The first slot weighed out, or a copy where that can't be made.
-fn weighed(alloc: Global, f: &Diagram, p: &Diagram) -> Result<Diagram, NoMemory> {
-    let bound = 1 << 60;
-    if !has_same_scope(f, p) || !is_within(f, bound) || !has_slot(f, 0) || !has_slot(p, 0) {
-        let same = f.copied(alloc)?;
-        return Ok(same);
+/// Products of two trees.
+fn multiply_often(alloc: Global, f: &Diagram, g: &Diagram, times: u64) -> Result<(), NoMemory> {
+    if !has_same_scope(f, g) || !is_within(f, BOUND) || !is_within(g, BOUND) {
+        return Ok(());
+    }
+    for _ in 0..times {
+        let _ = mul_floor(alloc, f, g)?;
+    }
+    Ok(())
+}
+
+/// Means over the first slot.
+fn weigh_often(alloc: Global, f: &Diagram, p: &Diagram, times: u64) -> Result<(), NoMemory> {
+    if !has_same_scope(f, p) || !is_within(f, BOUND) || !has_slot(f, 0) || !has_slot(p, 0) {
+        return Ok(());
     }
     if !is_row(alloc, p, 0)? {
-        let same = f.copied(alloc)?;
-        return Ok(same);
+        return Ok(());
     }
-    let made = weigh_out(alloc, f, 0, p)?;
-    Ok(made)
+    for _ in 0..times {
+        let _ = weigh_out(alloc, f, 0, p)?;
+    }
+    Ok(())
 }
 
-/// Makes an operation so many times.
+/// Sums over the first slot.
+fn sum_often(alloc: Global, f: &Diagram, times: u64) -> Result<(), NoMemory> {
+    if !is_within(f, BOUND) || !has_slot(f, 0) {
+        return Ok(());
+    }
+    for _ in 0..times {
+        let _ = sum_out(alloc, f, 0)?;
+    }
+    Ok(())
+}
+
+/// Copies.
+fn copy_often(alloc: Global, f: &Diagram, times: u64) -> Result<(), NoMemory> {
+    for _ in 0..times {
+        let _ = f.copied(alloc)?;
+    }
+    Ok(())
+}
+
+/// Sums over all states of the product of two trees.
+fn dot_often(alloc: Global, f: &Diagram, g: &Diagram, times: u64) -> Result<(), NoMemory> {
+    if !has_same_scope(f, g) || !is_on_unprimed(f) || !is_on_unprimed(g) {
+        return Ok(());
+    }
+    if !are_weights(f) || !is_within(g, BOUND) {
+        return Ok(());
+    }
+    for _ in 0..times {
+        let _ = dot(alloc, f, g)?;
+    }
+    Ok(())
+}
+
+/// Comparisons of a tree with itself, which go through all of it.
+fn compare_often(alloc: Global, f: &Diagram, times: u64) -> Result<(), NoMemory> {
+    for _ in 0..times {
+        let _ = below(alloc, f, f)?;
+    }
+    Ok(())
+}
+
+/// Makes an operation so many times, where it can be made of the operands.
 fn repeated(alloc: Global, operation: Operation, depth: u64, times: u64) -> Result<(), NoMemory> {
     let Some(scope) = scope_of(alloc, depth)? else {
         return Ok(());
@@ -140,10 +189,15 @@ fn repeated(alloc: Global, operation: Operation, depth: u64, times: u64) -> Resu
     let f = tree(alloc, &scope, 0, depth, 1)?;
     let g = tree(alloc, &scope, 0, depth, 2)?;
     let p = row(alloc, &scope)?;
-    for _ in 0..times {
-        let _ = made(alloc, operation, &f, &g, &p)?;
+    match operation {
+        Operation::Add => add_often(alloc, &f, &g, times),
+        Operation::Mul => multiply_often(alloc, &f, &g, times),
+        Operation::Weigh => weigh_often(alloc, &f, &p, times),
+        Operation::Sum => sum_often(alloc, &f, times),
+        Operation::Copy => copy_often(alloc, &f, times),
+        Operation::Dot => dot_often(alloc, &f, &g, times),
+        Operation::Below => compare_often(alloc, &f, times),
     }
-    Ok(())
 }
 
 /// The number of a word, or 0.

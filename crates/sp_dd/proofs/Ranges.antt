@@ -1,10 +1,11 @@
 -- Parts of a list from a place on.
 use Rattle.std.proofs.Common.{◌≡◌, ℕ, zero, suc, ◌+◌, ◌<◌, ◌≤◌, List, [], ◌∷◌, ◌++◌, length, get_or, take, drop, pos, ◌&&◌, sym, ◌∙◌, ap, ap₂, refl, arith, add-one}
-use Rattle.std.proofs.lemmas.List.{get_or-take, get_or-drop, length-drop}
+use Rattle.std.proofs.lemmas.List.{get_or-take, get_or-drop, length-drop, drop-drop}
 use Rattle.sp_dd.specs.declared.part.Part.{Part}
 use Rattle.sp_dd.specs.declared.part.Part.TheVariants.{Leaf}
 use Rattle.sp_dd.specs.NodeLists.{all_are, same_part, first_part}
 use Rattle.sp_dd.specs.Hashes.{part_hash, parts_hash}
+use Rattle.sp_dd.proofs.Settled.{same_part_refl}
 use Rattle.sp_dd.proofs.Worded.{drop_first}
 
 abbrev pub no_part : Part
@@ -34,6 +35,14 @@ pub all_are_more : (a : Part) (xs : List Part) (i : ℕ) → i < length xs → a
 all_are_more a xs i l =
     let one : i + 1 ≡ suc i = add-one i in
     ap (all_are a) (drop_first xs i l) ∙ sym (ap (λ j. same_part a (get_or xs i no_part) && all_are a (drop j xs)) one)
+
+-- the first part is the first
+pub all_are_rest : (xs : List Part) (i : ℕ) → all_are (first_part (drop i xs)) (drop (i + 1) xs) ≡ all_are (first_part (drop i xs)) (drop i xs)
+all_are_rest xs i = ap (all_are (first_part (drop i xs))) (sym (drop-drop 1 i xs)) ∙ without_first (drop i xs)
+  where
+    without_first : (ps : List Part) → all_are (first_part ps) (drop 1 ps) ≡ all_are (first_part ps) ps
+    without_first [] = refl
+    without_first (a ∷ ps) = sym (ap (λ b. b && all_are a ps) (same_part_refl a))
 
 pub first_of_drop : (xs : List Part) (i : ℕ) → i < length xs → get_or xs i no_part ≡ first_part (drop i xs)
 first_of_drop xs i l = sym (ap first_part (drop_first xs i l))

@@ -207,7 +207,10 @@ fn are_one(list: &Words, start: usize) -> bool
     requires { start ≤ length list.now }
     ensures { result ≡ all_are (first_part (drop start list.now)) (drop start list.now) }
 {
-    for i in start..list.len() {
+    if start >= list.len() {
+        return true;
+    }
+    for i in start + 1..list.len() {
         if !list.same(start, list, i) {
             return false;
         }

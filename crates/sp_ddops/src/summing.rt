@@ -2,9 +2,9 @@
 ghost use Rattle.std.specs.Prelude.{◌≡◌, ◌<◌, ◌≤◌, ◌^◌, ◌+ℤ◌, ◌*ℤ◌, unsigned_abs, ◌++◌, ◌∷◌, [], ℕ, length, get_or, take, drop, nat_lt, true, false, IfOk, OnOk};
 ghost use Rattle.sp_dd.specs.NodeLists.{made_node};
 ghost use Rattle.sp_dd.specs.Func.{function_of};
-ghost use Rattle.sp_dd.specs.Ordered.{at, node_at};
+ghost use Rattle.sp_dd.specs.Ordered.{at, node_at, IsBefore};
 ghost use Rattle.sp_dd.specs.Sources.{IfLeaf, IfBranch};
-ghost use Rattle.sp_ddops.specs.Cofactors.{leaf_of};
+ghost use Rattle.sp_ddops.specs.Cofactors.{leaf_of, cofactor_of};
 ghost use Rattle.sp_ddops.specs.Sums.{leaf_total, least_of, paired, cofactors, spread_to, finished, sum_meaning, ArePairs, AreLight, IsSumOf, IsSumBundle, IsSettled};
 
 use crate::cofactor::{cofactor, leaf_in, slot_in};
@@ -157,22 +157,32 @@ fn push_cofactors(
     let mut i = start;
     while end - i > 1 {
         let first = cofactor(left, slot, value, list[i]);
-        let second = cofactor(right, slot, value, list[i + 1]);
-        push_pair(list, first, second)?;
+        let second = list[i + 1];
+        push_pair(right, list, slot, value, first, second)?;
         i += 2;
     }
     Ok(())
 }
 
-/// Pushes a pair, unless its product is 0.
+/// Pushes a part with the part of another list where a slot has a value, unless their product is 0. A part times 0 isn't looked up.
 #[inline(always)]
-fn push_pair(list: &mut Vec<Part>, first: Part, second: Part) -> Result<(), NoMemory>
-    ensures { OnOk result (list.new.items ≡ list.old.items ++ paired first second []) }
+fn push_pair(
+    right: &Nodes,
+    list: &mut Vec<Part>,
+    slot: u64,
+    value: u64,
+    first: Part,
+    second: Part,
+) -> Result<(), NoMemory>
+    requires before { IsBefore (length right.now) second }
+    requires value { (i : ℕ) → i < length right.now → (node_at right.now i).slot ≡ slot → value < length (node_at right.now i).parts }
+    ensures { OnOk result (list.new.items ≡ list.old.items ++ paired first (cofactor_of right.now slot value second) []) }
 {
     let zero = Part::Leaf(0);
     if first.is_same(&zero) {
         return Ok(());
     }
+    let second = cofactor(right, slot, value, second);
     if second.is_same(&zero) {
         return Ok(());
     }
