@@ -2,8 +2,9 @@
 use Rattle.std.specs.Prelude.{◌≡◌, ◌==◌, ◌+◌, ◌*◌, ◌<◌, ℕ, List, [], length, get_or, slice_index, slice_index_or}
 use Rattle.sp_dd.specs.Func.{Func}
 use Rattle.sp_dd.specs.Operations.{restricted}
+use Rattle.sp_ddops.specs.Diagonals.{IsIdentity}
 use Rattle.sp_model.specs.declared.parts.Parts.{Parts}
-use Rattle.sp_model.specs.Problem.{no_func, sizes_of, sight_of, problem}
+use Rattle.sp_model.specs.Problem.{no_func, sizes_of, sight_of, move_of, problem}
 use Rattle.sp_belief.specs.declared.tables.ActionTables.{ActionTables}
 use Rattle.sp_belief.specs.Progress.{goes}
 
@@ -15,6 +16,15 @@ IsLastTable p a v last = (table : ℕ) → table < length p.variables → goes (
 pub record AreLastTables (p : Parts) (a n : ℕ) (last : List ℕ) : Type 0 where
   pub count : length last ≡ n
   pub each : (v : ℕ) → v < n → IsLastTable p a v (slice_index last v)
+
+-- one variable, and no other one, has that table for its last
+abbrev pub IsAlone : List ℕ → ℕ → Type 0
+IsAlone last table = (v : ℕ) → v < length last → (slice_index last v == table) ≡ (v == table)
+
+-- a variable keeps its value, and it alone is summed out at its table
+pub record IsKeptTable (p : Parts) (a k : ℕ) : Type 0 where
+  pub alone : (v : ℕ) → v < length p.variables → goes (problem p) a k v ≡ (v == k)
+  pub identity : IsIdentity (move_of p a k) (2 * k + 1)
 
 -- the table of observation variable j at its first n values
 pub record AreChances (p : Parts) (a j n : ℕ) (fs : List Func) : Type 0 where

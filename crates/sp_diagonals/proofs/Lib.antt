@@ -1,0 +1,5 @@
+pub mod Slots
+pub mod JoinedParts
+pub mod Points
+pub mod Rows
+pub mod Identities
