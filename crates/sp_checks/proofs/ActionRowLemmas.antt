@@ -38,7 +38,9 @@ use Rattle.sp_model.specs.Problem.{no_func}
 use Rattle.std.proofs.lemmas.List.{length-map}
 use Rattle.std.proofs.lemmas.List.FromFn.{fill_by_all}
 use Rattle.sp_checks.specs.Actions.{or_identity, items, moves_of, sight_step, sights_of, name_refusal_by, checked_name, draft_of, draft, action}
-use Rattle.sp_checks.specs.TextRows.{IsActionNamed, ItemRow, IsUnobserved, ActionRow, action_count}
+use Rattle.sp_checks.specs.Standing.{IsActionNamed, action_count}
+use Rattle.sp_checks.specs.RefusalTable.{IsUnobserved}
+use Rattle.sp_checks.proofs.TextRows.{ItemRow, ActionRow}
 use Rattle.sp_checks.proofs.AmongLemmas.{at_place, at_later, among_more, among_last, among_split, IsMet}
 use Rattle.sp_checks.proofs.PlaceNames.{some_none}
 use Rattle.sp_checks.proofs.ItemRowLemmas.{HasItems, items_least, items_fit, items_place}

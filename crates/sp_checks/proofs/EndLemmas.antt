@@ -25,7 +25,9 @@ use Rattle.sp_checks.specs.declared.state.State.{State}
 use Rattle.sp_checks.specs.Finish.{or_zero, reward_of, checked_reward, action_part as part_of, action_step, actions, parts, finish_by, finish}
 use Rattle.sp_checks.specs.Kept.{IsState, IsWorth}
 use Rattle.sp_checks.specs.Told.{env_with, env_after, first_from, all_from, init_in, discount_in, action_in, common_reward, actions_in}
-use Rattle.sp_checks.specs.TextRows.{IsInit, IsDiscount, IsAction, IsTooMuch, EndRow}
+use Rattle.sp_checks.specs.Standing.{IsInit, IsDiscount, IsAction}
+use Rattle.sp_checks.specs.RefusalTable.{IsTooMuch}
+use Rattle.sp_checks.proofs.TextRows.{EndRow}
 use Rattle.sp_checks.proofs.AmongLemmas.{at_later}
 use Rattle.sp_checks.proofs.TableRowLemmas.{outside_of, not_outside}
 use Rattle.sp_checks.proofs.ActionRowLemmas.{draft_told}

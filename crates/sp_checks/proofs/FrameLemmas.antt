@@ -41,7 +41,8 @@ use Rattle.sp_checks.specs.Initial.{init, checked_init, factors, share_of, facto
 use Rattle.sp_checks.specs.Actions.{action, checked_name, draft}
 use Rattle.sp_checks.specs.Sections.{number_kind, checked_dd, dd, checked_reward, reward, within_range, discount_by, discount_of, checked_discount, discount, section}
 use Rattle.sp_checks.specs.Told.{env_with, env_after, or_else, first_from, all_from, factor_of, reward_in, init_in, ticks_in, discount_in}
-use Rattle.sp_checks.specs.TextRows.{RoleRow, InitRow, ActionRow, NumberRow, IsInit, IsReward, IsDiscount, IsActionNamed, IsDdNamed, SectionRow, one_action, action_count}
+use Rattle.sp_checks.specs.Standing.{IsInit, IsReward, IsDiscount, IsActionNamed, IsDdNamed, one_action, action_count}
+use Rattle.sp_checks.proofs.TextRows.{RoleRow, InitRow, ActionRow, NumberRow, SectionRow}
 use Rattle.sp_checks.proofs.PlaceLemmas.{row_place}
 use Rattle.sp_checks.proofs.AmongLemmas.{among_more, among_last, among_split, IsMet, met_same, met_new, once_then}
 use Rattle.sp_checks.proofs.PlaceNames.{none_of, or_else_none, or_else_assoc}

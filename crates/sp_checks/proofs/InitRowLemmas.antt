@@ -44,7 +44,8 @@ use Rattle.sp_checks.specs.declared.initial.Factored.{Factored}
 use Rattle.sp_checks.specs.Roles.{start_of, allowed}
 use Rattle.sp_checks.specs.declared.state.State.{State}
 use Rattle.sp_checks.specs.Initial.{factor_trees, has_every, mentioned, checked_every, factors, checked_init, init, own_of, shares, share_of, sum_refusal, value_refusal_by, value_refusal, checked_share, checked_values, owned, factor, factor_step, no_factors, factors_in_turn}
-use Rattle.sp_checks.specs.TextRows.{RoleRow, FactorRow, IsInit, InitRow}
+use Rattle.sp_checks.specs.Standing.{IsInit}
+use Rattle.sp_checks.proofs.TextRows.{RoleRow, FactorRow, InitRow}
 use Rattle.sp_checks.specs.Told.{factor_of}
 use Rattle.sp_checks.proofs.RowPlaceLemmas.{factor_place, factors_place, factor_rise}
 use Rattle.sp_checks.proofs.AmongLemmas.{at_later, among_more, among_last, among_split}

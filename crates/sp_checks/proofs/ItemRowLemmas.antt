@@ -37,7 +37,8 @@ use Rattle.sp_checks.specs.Roles.{allowed}
 use Rattle.sp_checks.specs.Accepted.{accepted, table_of}
 use Rattle.sp_checks.specs.Actions.{is_listed, unlisted_by, unlisted, named_by, named, variable_at, variable, observed_at, observed, begun_observe, observe, checked_cost, cost, item, nothing_listed, items}
 use Rattle.sp_checks.specs.Told.{or_else, first_of, is_variable, is_sight, move_in, pair_in, sight_in, cost_in}
-use Rattle.sp_checks.specs.TextRows.{RoleRow, TableRow, IsSame, words_in, words_of, observed_in, observed_words, IsObserve, IsCost, ListedRow, VariableRow, ObservedRow, ItemRow}
+use Rattle.sp_checks.specs.Standing.{IsSame, words_in, words_of, observed_in, observed_words, IsObserve, IsCost}
+use Rattle.sp_checks.proofs.TextRows.{RoleRow, TableRow, ListedRow, VariableRow, ObservedRow, ItemRow}
 use Rattle.sp_checks.proofs.PlaceLemmas.{row_place}
 use Rattle.sp_checks.proofs.AmongLemmas.{at_place, at_later, among_map, IsMet, met_same, met_new, once_then}
 use Rattle.sp_checks.proofs.PlaceNames.{some_same, some_none, none_of, place_named, same_place, no_table, none_at, or_else_none, or_else_assoc, first_more, put_met, others_met, put_given}

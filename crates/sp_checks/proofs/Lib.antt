@@ -14,6 +14,10 @@ pub mod ModelLemmas
 pub mod WordLemmas
 pub mod StartLemmas
 pub mod ReadingLemmas
+mod TextRows
+mod StandingLemmas
+mod TreeTableLemmas
+mod RefusalLemmas
 mod PlaceLemmas
 mod AmongLemmas
 mod PlaceNames

@@ -52,12 +52,15 @@ use Rattle.sp_checks.specs.Sections.{number_kind}
 use Rattle.sp_checks.specs.Initial.{factor_trees, own_of}
 use Rattle.sp_checks.specs.Accepted.{variable_number}
 use Rattle.sp_checks.specs.Told.{env_of, env_after}
-use Rattle.sp_checks.specs.TextRows.{RoleRow, IsQuiet, TableValueRow, TableRow, ListedRow, VariableRow, ObservedRow, ItemRow, words_of, action_count, IsActionNamed, IsUnobserved, ActionRow, FactorRow, InitRow, NumberRow, SectionRow, EndRow, Breaks}
+use Rattle.sp_checks.specs.Standing.{words_of, action_count, IsActionNamed}
+use Rattle.sp_checks.specs.RefusalTable.{IsUnobserved}
+use Rattle.sp_checks.proofs.TextRows.{RoleRow, HasNoRow, TableValueRow, TableRow, ListedRow, VariableRow, ObservedRow, ItemRow, ActionRow, FactorRow, InitRow, NumberRow, SectionRow, EndRow, TextRow}
 use Rattle.sp_lex.proofs.Unique.{cut_alone}
 use Rattle.sp_syntax.proofs.SpanLemmas.{spans_rise}
 use Rattle.sp_checks.specs.Answers.{OneRefusal}
 use Rattle.sp_checks.proofs.AmongLemmas.{at_place}
 use Rattle.sp_checks.proofs.PlaceNames.{some_same}
+use Rattle.sp_checks.proofs.RefusalLemmas.{part_least}
 use Rattle.sp_checks.proofs.RowPlaceLemmas.{factor_rise, factor_place, observed_place, item_place, section_place}
 
 -- ---- kinds that say no more than their name
@@ -275,7 +278,7 @@ one_values n action t at f =
 
 one_table : (env : Env) (source : List ℕ) (action : ℕ) (k : Table) (t : Tree) → IsOne (TableRow env source action k t)
 one_table env source action k t =
-    one_plain (RoleRow env source (role.Table k) t) (λ r. IsQuiet env source (role.Table k) t × TableValueRow env.scope.variables action k (start_of t) (func_of env source t) r) (role_plain env source (role.Table k) t)
+    one_plain (RoleRow env source (role.Table k) t) (λ r. HasNoRow env source (role.Table k) t × TableValueRow env.scope.variables action k (start_of t) (func_of env source t) r) (role_plain env source (role.Table k) t)
     (λ r q a b. one_values env.scope.variables action k (start_of t) (func_of env source t) r q a.1 b.1)
 
 one_factor : (env : Env) (source : List ℕ) (before : List Tree) (t : Tree) → IsOne (FactorRow env source before t)
@@ -399,7 +402,7 @@ end_place : (source : List ℕ) (env : Env) (xs : List Section) (end : ℕ) (r :
 end_place source env xs end r (inl h) = at_place end kind.MissingPart r h.1
 end_place source env xs end r (inr h) = at_place end kind.RewardRange r h.1
 
-one_text : (source : List ℕ) (t : Text) → AreRising 0 (text_spans t) (length source) → IsOne (Breaks source t)
+one_text : (source : List ℕ) (t : Text) → AreRising 0 (text_spans t) (length source) → IsOne (TextRow source t)
 one_text source t rise =
     let env = env_of source t in
     let vs = declarations_spans t.variables in
@@ -424,9 +427,9 @@ neither_kind : (a b p q : ℕ) → (if a == b then nat_lt p q else nat_lt a b) �
 neither_kind a b p q h k = grind (arith, nat_tests)
 
 -- so one refusal comes first
-one_least : (source : List ℕ) (t : Text) → AreRising 0 (text_spans t) (length source) → (x y : Refusal) → IsLeastOf (Breaks source t) (Some x) → IsLeastOf (Breaks source t) (Some y) → x ≡ y
+one_least : (source : List ℕ) (t : Text) → AreRising 0 (text_spans t) (length source) → (x y : Refusal) → IsLeastOf (TextRow source t) (Some x) → IsLeastOf (TextRow source t) (Some y) → x ≡ y
 one_least source t rise x y h k =
     one_text source t rise x y h.0 k.0 (neither x.at y.at (rank x.kind) (rank y.kind) (k.1 x h.0) (h.1 y k.0)) (neither_kind x.at y.at (rank x.kind) (rank y.kind) (k.1 x h.0) (h.1 y k.0))
 
 pub one_first : OneRefusal
-one_first source t first second is h k = one_least source t (spans_rise source is.tokens t ((cut_alone source is.tokens).0 is.lexed) is.read) first second h k
+one_first source t first second is h k = one_least source t (spans_rise source is.tokens t ((cut_alone source is.tokens).0 is.lexed) is.read) first second (part_least source t (Some first) h) (part_least source t (Some second) k)

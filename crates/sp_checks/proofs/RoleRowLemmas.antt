@@ -20,7 +20,7 @@ use Rattle.sp_checks.specs.declared.roles.Role.{Role}
 use Rattle.sp_checks.specs.declared.accepted.Accepted.{Accepted}
 use Rattle.sp_checks.specs.Roles.{allowed}
 use Rattle.sp_checks.specs.Accepted.{accepted, accepted_by}
-use Rattle.sp_checks.specs.TextRows.{RoleRow}
+use Rattle.sp_checks.proofs.TextRows.{RoleRow}
 
 refused_accepted : (m : Slots) (o : Result Func Refusal) → refusal_of (accepted_by m o) ≡ refusal o
 refused_accepted m (Ok f) = refl

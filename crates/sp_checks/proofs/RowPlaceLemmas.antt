@@ -24,7 +24,7 @@ use Rattle.sp_checks.specs.declared.roles.Role.TheVariants as role
 use Rattle.sp_checks.specs.Roles.{start_of, allowed}
 use Rattle.sp_checks.specs.Initial.{factor_trees, trees_by}
 use Rattle.sp_checks.specs.Told.{env_after}
-use Rattle.sp_checks.specs.TextRows.{TableRow, ListedRow, VariableRow, ObservedRow, ItemRow, ActionRow, FactorRow, InitRow, NumberRow, SectionRow}
+use Rattle.sp_checks.proofs.TextRows.{TableRow, ListedRow, VariableRow, ObservedRow, ItemRow, ActionRow, FactorRow, InitRow, NumberRow, SectionRow}
 use Rattle.sp_checks.proofs.PlaceLemmas.{row_place, start_place, spans_by, spans_out}
 
 -- a refusal at a place that is known

@@ -26,7 +26,7 @@ use Rattle.sp_declarations.proofs.ChainLemmas.{refused_ok, refused_unless}
 use Rattle.sp_checks.specs.declared.roles.Role.TheVariants as role
 use Rattle.sp_checks.specs.Roles.{start_of}
 use Rattle.sp_checks.specs.Accepted.{accepted, variable_number, row_refusal, table_refusal_by, table_refusal, checked_table, table_of}
-use Rattle.sp_checks.specs.TextRows.{RoleRow, TableValueRow, TableRow}
+use Rattle.sp_checks.proofs.TextRows.{RoleRow, TableValueRow, TableRow}
 use Rattle.sp_checks.proofs.RoleRowLemmas.{role_least, role_told}
 
 -- rows that count only where none of others holds

@@ -29,7 +29,8 @@ use Rattle.sp_checks.specs.Kept.{IsState}
 use Rattle.sp_checks.specs.Source.{HasName, HasWords, IsTextOf}
 use Rattle.sp_checks.specs.Meaning.{meaning}
 use Rattle.sp_checks.specs.Told.{env_of, parts_in}
-use Rattle.sp_checks.specs.TextRows.{SectionRow, EndRow, Breaks}
+use Rattle.sp_checks.proofs.TextRows.{SectionRow, EndRow, TextRow}
+use Rattle.sp_checks.specs.RefusalTable.{Breaks}
 use Rattle.sp_checks.specs.Answers.{Answers}
 use Rattle.sp_checks.proofs.AmongLemmas.{at_place}
 use Rattle.sp_checks.proofs.ReadingLemmas.{has_declared}
@@ -39,6 +40,7 @@ use Rattle.sp_checks.proofs.ModelLemmas.{finish_model}
 use Rattle.sp_checks.proofs.WordLemmas.{has_words}
 use Rattle.sp_checks.proofs.FrameLemmas.{HasRead, sections_least, sections_fit, sections_place}
 use Rattle.sp_checks.proofs.EndLemmas.{end_least, end_told}
+use Rattle.sp_checks.proofs.RefusalLemmas.{table_least}
 
 module _ (source : List ℕ) (t : Text) (words : HasWords source t) where
   abbrev env : Env
@@ -67,7 +69,7 @@ module _ (source : List ℕ) (t : Text) (words : HasWords source t) where
   end_place r (inr h) = at_place (length source) _ r h.1
 
   -- the meaning answers the first row
-  pub text_least : AreRising 0 (text_spans t) (length source) → IsLeastOf (Breaks source t) (refusal_of (meaning source t))
+  pub text_least : AreRising 0 (text_spans t) (length source) → IsLeastOf (TextRow source t) (refusal_of (meaning source t))
   unfolding meaning
   text_least rise =
       let vs = declarations_spans t.variables in
@@ -103,7 +105,7 @@ text_answers source t is cut x h = go x h
     words = has_words source t is cut
 
     least : IsLeastOf (Breaks source t) (refusal_of (meaning source t))
-    least = text_least source t words (spans_rise source is.tokens t ((cut is.tokens).0 is.lexed) is.read)
+    least = table_least source t (refusal_of (meaning source t)) (text_least source t words (spans_rise source is.tokens t ((cut is.tokens).0 is.lexed) is.read))
 
     go : (x : Result Parts ModelError) → Gives (meaning source t) x → Answers source t x
     go (Ok p) h = let told = text_told source t words p h in (subst (λ y. IsLeastOf (Breaks source t) (refusal_of y)) h least, told.0, told.1)

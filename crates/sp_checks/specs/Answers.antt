@@ -9,7 +9,7 @@ use Rattle.sp_declarations.specs.declared.error.ModelError.{ModelError}
 use Rattle.sp_declarations.specs.declared.error.ModelError.TheVariants as error
 use Rattle.sp_checks.specs.Source.{IsTextOf}
 use Rattle.sp_checks.specs.Told.{parts_in}
-use Rattle.sp_checks.specs.TextRows.{Breaks}
+use Rattle.sp_checks.specs.RefusalTable.{Breaks}
 
 -- Where no row of the table holds, the model that the text tells, which is lawful. Where one holds, the row with the least place, and at one place the one that comes first.
 abbrev pub Answers : List ℕ → Text → Result Parts ModelError → Type 0

@@ -8,5 +8,6 @@ pub mod Finish
 pub mod Source
 pub mod Meaning
 pub mod Told
-pub mod TextRows
+pub mod Standing
+pub mod RefusalTable
 pub mod Answers

@@ -1,6 +1,6 @@
 //! From the parsed text of a model file to its model, or to the refusal that comes first.
 //!
-//! `specs/TextRows.antt` is the table of refusals: each row by itself, apart from the reading. `specs/Told.antt` says which model a
+//! `specs/RefusalTable.antt` is the table of refusals, row by row: each row by itself, apart from the reading. `specs/Told.antt` says which model a
 //! text tells. `model_of` answers the row with the least place, and at one place the one whose kind stands first in `sp_trees`'s
 //! list, or the model where no row holds. The code judges the declarations in turn, then the sections, each item by item, then
 //! what is missing at the end, and stops at the first that is refused: that is the least, since places rise through a text.

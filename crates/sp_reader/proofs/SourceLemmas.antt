@@ -12,7 +12,7 @@ use Rattle.sp_trees.specs.declared.refusal.Refusal.{Refusal}
 use Rattle.sp_trees.specs.declared.refusal.ModelKind.{ModelKind}
 use Rattle.sp_trees.specs.Rows.{IsLeastOf}
 use Rattle.sp_checks.specs.Told.{parts_in}
-use Rattle.sp_checks.specs.TextRows.{Breaks}
+use Rattle.sp_checks.specs.RefusalTable.{Breaks}
 use Rattle.sp_checks.proofs.OneRowLemmas.{one_first}
 use Rattle.sp_reader.specs.Sources.{IsTreeOf, IsOutside, IsFaulty, AcceptedIsNotRefused, OneModel, OneRefusal}
 use Rattle.sp_reader.specs.Kinds.{grammar_name, kind_text}

@@ -12,7 +12,7 @@ use Rattle.sp_trees.specs.declared.refusal.ModelKind.{ModelKind}
 use Rattle.sp_trees.specs.declared.refusal.Refusal.{Refusal}
 use Rattle.sp_trees.specs.Rows.{IsLeastOf}
 use Rattle.sp_checks.specs.Told.{parts_in}
-use Rattle.sp_checks.specs.TextRows.{Breaks}
+use Rattle.sp_checks.specs.RefusalTable.{Breaks}
 use Rattle.sp_reader.specs.Kinds.{grammar_name, kind_text}
 
 -- the bytes have tokens, and this is the tree of these

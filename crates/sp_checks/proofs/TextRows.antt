@@ -1,5 +1,5 @@
--- The table of refusals for a whole text: each row by itself, apart from the reading.
-use Rattle.std.specs.Prelude.{◌≡◌, ℕ, ◌+◌, ◌*◌, ◌<◌, ◌⊎◌, ℤ, pos, neg_ℤ, ◌≤ℤ◌, true, List, [], ◌∷◌, ◌++◌, map, length, fold, Some, None, Result, Ok, Err}
+-- The rows of the table of refusals by the parts of a text, in the order of a reading.
+use Rattle.std.specs.Prelude.{◌≡◌, ℕ, ◌*◌, ◌<◌, ◌⊎◌, ℤ, pos, ◌≤ℤ◌, true, List, [], ◌++◌, map, length, Some, None, Result, Ok, Err}
 use Rattle.sp_lex.specs.declared.lexeme.Span.{Span}
 use Rattle.sp_lex.specs.declared.decimal.NumError.{NumError}
 use Rattle.sp_lex.specs.Decimal.{ticks_of}
@@ -12,12 +12,10 @@ use Rattle.sp_syntax.specs.declared.text.Section.TheVariants as section_of
 use Rattle.sp_syntax.specs.declared.text.Text.{Text}
 use Rattle.sp_dd.specs.Floors.{ticks}
 use Rattle.sp_dd.specs.Func.{Func}
-use Rattle.sp_model.specs.declared.parts.ActionPart.{ActionPart}
 use Rattle.sp_rows.specs.declared.tables.Table.{Table}
 use Rattle.sp_rows.specs.declared.tables.Table.TheVariants as table
 use Rattle.sp_rows.specs.declared.tables.BadRow.{BadRow}
 use Rattle.sp_rows.specs.Tables.{bad_row, bad_sum}
-use Rattle.sp_model.specs.Kept.{most_reward}
 use Rattle.sp_trees.specs.declared.refusal.ModelKind.TheVariants as kind
 use Rattle.sp_trees.specs.declared.refusal.Refusal.{Refusal}
 use Rattle.sp_trees.specs.declared.env.Env.{Env}
@@ -36,13 +34,15 @@ use Rattle.sp_checks.specs.Roles.{start_of, allowed}
 use Rattle.sp_checks.specs.Accepted.{variable_number}
 use Rattle.sp_checks.specs.Sections.{number_kind}
 use Rattle.sp_checks.specs.Initial.{factor_trees, own_of}
+use Rattle.sp_checks.specs.Standing.{IsSame, words_of, IsObserve, IsCost, IsAction, IsActionNamed, IsDdNamed, IsInit, IsReward, IsDiscount, action_count}
+use Rattle.sp_checks.specs.RefusalTable.{IsUnobserved, IsTooMuch}
 
 -- ---- rows of trees by what they are for
 abbrev pub RoleRow : Env → List ℕ → Role → Tree → Refusal → Type 0
 RoleRow env source for t r = TreeRow env source (allowed env.scope for) t r
 
-abbrev pub IsQuiet : Env → List ℕ → Role → Tree → Type 0
-IsQuiet env source for t = (r : Refusal) → ¬ RoleRow env source for t r
+abbrev pub HasNoRow : Env → List ℕ → Role → Tree → Type 0
+HasNoRow env source for t = (r : Refusal) → ¬ RoleRow env source for t r
 
 -- the values of a table: a value outside of 0 and one, or else the first row that doesn't sum to one
 abbrev pub TableValueRow : ℕ → ℕ → Table → ℕ → Func → Refusal → Type 0
@@ -54,36 +54,9 @@ TableValueRow n action t at f r =
 abbrev pub TableRow : Env → List ℕ → ℕ → Table → Tree → Refusal → Type 0
 TableRow env source action t tree r =
     RoleRow env source (role.Table t) tree r
-    ⊎ (IsQuiet env source (role.Table t) tree × TableValueRow env.scope.variables action t (start_of tree) (func_of env source tree) r)
+    ⊎ (HasNoRow env source (role.Table t) tree × TableValueRow env.scope.variables action t (start_of tree) (func_of env source tree) r)
 
 -- ---- items
-abbrev pub IsSame : List ℕ → Span → Span → Type 0
-IsSame source w v = text source v ≡ text source w
-
-abbrev pub words_in : Item → List Span
-words_in (item_of.Variable name t) = name ∷ []
-words_in (item_of.Observe keyword list end) = map (λ o. o.name) list
-words_in (item_of.Cost keyword t) = []
-
-abbrev pub words_of : List Item → List Span
-words_of items = fold (λ ws i. ws ++ words_in i) [] items
-
--- the words of the pairs in observe
-abbrev pub observed_in : Item → List Span
-observed_in (item_of.Observe keyword list end) = map (λ o. o.name) list
-observed_in _ = []
-
-abbrev pub observed_words : List Item → List Span
-observed_words items = fold (λ ws i. ws ++ observed_in i) [] items
-
-abbrev pub IsObserve : Item → Type 0
-IsObserve (item_of.Observe keyword list end) = Unit {0}
-IsObserve _ = ⊥
-
-abbrev pub IsCost : Item → Type 0
-IsCost (item_of.Cost keyword t) = Unit {0}
-IsCost _ = ⊥
-
 -- a word that names nothing, or that the action listed before
 abbrev pub ListedRow : Env → List ℕ → List Span → Span → Refusal → Type 0
 ListedRow env source words w r =
@@ -110,42 +83,6 @@ ItemRow env source action before (item_of.Observe keyword list end) r =
 ItemRow env source action before (item_of.Cost keyword t) r = (Among IsCost before × IsAt keyword.start kind.RepeatedName r) ⊎ RoleRow env source role.Reward t r
 
 -- ---- sections
-abbrev pub IsAction : Section → Type 0
-IsAction (section_of.Action keyword name items end) = Unit {0}
-IsAction _ = ⊥
-
-abbrev pub IsActionNamed : List ℕ → Span → Section → Type 0
-IsActionNamed source w (section_of.Action keyword name items end) = IsSame source w name
-IsActionNamed source w _ = ⊥
-
-abbrev pub IsDdNamed : List ℕ → Span → Section → Type 0
-IsDdNamed source w (section_of.Dd keyword name t end) = IsSame source w name
-IsDdNamed source w _ = ⊥
-
-abbrev pub IsInit : Section → Type 0
-IsInit (section_of.Init keyword t) = Unit {0}
-IsInit _ = ⊥
-
-abbrev pub IsReward : Section → Type 0
-IsReward (section_of.Reward keyword t) = Unit {0}
-IsReward _ = ⊥
-
-abbrev pub IsDiscount : Section → Type 0
-IsDiscount (section_of.Discount keyword word) = Unit {0}
-IsDiscount _ = ⊥
-
-abbrev pub one_action : Section → ℕ
-one_action (section_of.Action keyword name items end) = 1
-one_action _ = 0
-
--- how many actions there are
-abbrev pub action_count : List Section → ℕ
-action_count before = fold (λ n s. n + one_action s) 0 before
-
--- an observation variable that no observe lists: at endaction
-abbrev pub IsUnobserved : Env → List ℕ → List Item → Type 0
-IsUnobserved env source items = (j : ℕ) × (j < length env.sights) × (¬ Among (λ w. place_of env (text source w) ≡ Some (Sight j)) (observed_words items))
-
 abbrev pub ActionRow : Env → List ℕ → List Section → Span → List Item → Span → Refusal → Type 0
 ActionRow env source before name items end r =
     ((Among (IsActionNamed source name) before × IsAt name.start kind.RepeatedName r) ⊎ ((action_count before ≡ 256) × IsAt name.start (kind.TooMany 256) r))
@@ -156,7 +93,7 @@ abbrev pub FactorRow : Env → List ℕ → List Tree → Tree → Refusal → T
 FactorRow env source before t r =
     (((i : ℕ) × (i < env.scope.variables) × (has (mentions_of env source t) (2 * i) ≡ true) × Among (λ u. has (mentions_of env source u) (2 * i) ≡ true) before) × IsAt (start_of t) kind.BadScope r)
     ⊎ (RoleRow env source role.Init t r
-    ⊎ (IsQuiet env source role.Init t
+    ⊎ (HasNoRow env source role.Init t
     × ((HasOutside (pos 0) (pos ticks) (func_of env source t) × IsAt (start_of t) kind.BadProbability r)
     ⊎ ((¬ HasOutside (pos 0) (pos ticks) (func_of env source t))
     × ((sum : ℤ) × (bad_sum (func_of env source t) (own_of env.scope.variables (mentions_of env source t)) ≡ Some sum) × IsAt (start_of t) (kind.InitSum sum) r)))))
@@ -185,17 +122,12 @@ SectionRow source env before (section_of.Horizon keyword word) r = ⊥
 SectionRow source env before (section_of.Tolerance keyword word) r = ⊥
 
 -- ---- the end
--- the reward of an action less its cost is above a million in magnitude somewhere
-abbrev pub IsTooMuch : ActionPart → Type 0
-IsTooMuch a = HasOutside (neg_ℤ (pos most_reward)) (pos most_reward) a.reward
-
 -- a part that a model needs is missing, or an action's reward is too large
 abbrev pub EndRow : List ℕ → Env → List Section → ℕ → Refusal → Type 0
 EndRow source env sections end r =
     (((¬ Among IsInit sections) ⊎ ((¬ Among IsDiscount sections) ⊎ (¬ Among IsAction sections))) × IsAt end kind.MissingPart r)
     ⊎ (Among IsTooMuch (actions_in source env sections) × IsAt end kind.RewardRange r)
 
--- ---- the table
--- a row of the table holds of a text
-abbrev pub Breaks : List ℕ → Text → Refusal → Type 0
-Breaks source t r = DeclaredRow source t r ⊎ (PartRow (SectionRow source (env_of source t)) [] t.sections r ⊎ EndRow source (env_of source t) t.sections (length source) r)
+-- a row of a text
+abbrev pub TextRow : List ℕ → Text → Refusal → Type 0
+TextRow source t r = DeclaredRow source t r ⊎ (PartRow (SectionRow source (env_of source t)) [] t.sections r ⊎ EndRow source (env_of source t) t.sections (length source) r)
