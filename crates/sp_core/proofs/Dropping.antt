@@ -1,8 +1,7 @@
 -- Pairs of members of one edition of a book may be pruned from its latest edition, as far as they apply there.
-use Rattle.std.proofs.Common.{◌≡◌, ◌∙◌, sym, ap, subst, arith, ℕ, suc, ◌-◌, ◌<◌, List, [], ◌∷◌, ◌++◌, length, get_or, false, length-append}
+use Rattle.std.proofs.Common.{◌≡◌, ◌∙◌, sym, ap, subst, arith, ℕ, suc, ◌<◌, List, [], ◌∷◌, ◌++◌, length, get_or, false}
 use Rattle.std.specs.Prelude.{◌≤ℤ◌, All}
 use Rattle.std.proofs.lemmas.List.Elements.{All-nil, All-cons}
-use Rattle.std.proofs.Math.Seq.{get_or-append_seam}
 use Rattle.sp_theory.specs.Points.{IsPoint}
 use Rattle.sp_theory.specs.Model.{Model, State, IsLawful}
 use Rattle.sp_theory.specs.Plan.{Record, record_at}
@@ -18,11 +17,12 @@ use Rattle.sp_theory.proofs.PairsAgreement.{applying_same, pruned_agrees}
 use Rattle.sp_theory.proofs.Dominated.{IsPair, applying_can}
 use Rattle.sp_theory.proofs.OneThread.{prune_goes}
 use Rattle.sp_theory.proofs.Sound.{latest_members}
-use Rattle.sp_core.specs.Accounts.{Account, last_of}
+use Rattle.sp_ledger.specs.Accounts.{Account, last_of}
 use Rattle.sp_core.specs.Running.{IsRunning}
 use Rattle.sp_core.specs.Dominated.{IsDominatedPair, AreDominatedPairs}
-use Rattle.sp_core.proofs.Accounting.{account_pruned}
-use Rattle.sp_core.proofs.Running.{goes_on, kept_book}
+use Rattle.sp_ledger.proofs.Accounting.{account_pruned}
+use Rattle.sp_ledger.proofs.Replaying.{kept_book, latest_agrees}
+use Rattle.sp_core.proofs.Running.{goes_on}
 
 module _ (m : Model) (records : List Record) where
   -- the vector agrees with that of its record
@@ -65,21 +65,13 @@ module _ (t : Task) (es : List Event) (f : Account) (run : IsRunning t es f) whe
   abbrev book : Book
   book = replay t (opening t) es
 
-  pub latest_agrees : EditionsAgree t.model (last_of f.editions) book.latest
-  latest_agrees =
-      let count = editions-length t.model f.editions (editions book) run.account.editions in
-      let at : length f.editions - 1 ≡ length book.earlier = omega (arith, count, length-append book.earlier (book.latest ∷ [])) in
-      subst (λ (n : ℕ). EditionsAgree t.model (get_or f.editions n []) book.latest) (sym at)
-      (subst (λ (y : Edition). EditionsAgree t.model (get_or f.editions (length book.earlier) []) y) (get_or-append_seam book.earlier book.latest [] [])
-      (edition_at-agrees t.model f.editions (editions book) (length book.earlier) [] [] run.account.editions tt))
-
   module _ (lawful : IsLawful t.model) (some : 0 < t.beliefs) (going : f.done ≡ false) (e : ℕ) (exists : e < length f.editions) (pairs : List (ℕ × ℕ)) (dominated : AreDominatedPairs t.model (get_or f.editions e []) pairs) where
     pub applied_can : CanPrune t.model (replay t (opening t) es).latest (applying (replay t (opening t) es).latest pairs)
     applied_can =
-        let kept = kept_book t es f run lawful some going in
-        let has : e < length (editions book) = subst (λ (n : ℕ). e < n) (editions-length t.model f.editions (editions book) run.account.editions) exists in
+        let kept = kept_book t es f run.replayed lawful some going in
+        let has : e < length (editions book) = subst (λ (n : ℕ). e < n) (editions-length t.model f.editions (editions book) run.replayed.account.editions) exists in
         let recorded = recorded_by t.model book.records (get_or f.editions e []) (get_or (editions book) e [])
-        (edition_at-agrees t.model f.editions (editions book) e [] [] run.account.editions tt) (kept.members e [] has) in
+        (edition_at-agrees t.model f.editions (editions book) e [] [] run.replayed.account.editions tt) (kept.members e [] has) in
         applying_can t.model book.latest pairs (λ k d less. pair_of_records t.model book.records (get_or f.editions e []) book.latest recorded (latest_members t book kept) _ (dominated k d less))
 
     -- a prune of the pairs that apply
@@ -87,6 +79,6 @@ module _ (t : Task) (es : List Event) (f : Account) (run : IsRunning t es f) whe
         → IsRunning t (es ++ prune applied ∷ []) (record f { editions = f.editions ++ pruned (last_of f.editions) applied ∷ [] })
     unfolding replay Allowed
     run_pruned applied is more =
-        let can : CanPrune t.model book.latest applied = subst (CanPrune t.model book.latest) (sym (is ∙ applying_same t.model (last_of f.editions) book.latest pairs latest_agrees)) applied_can in
-        goes_on t es f run (prune applied ∷ []) _ (prune_goes t book run.turns applied (sym run.account.done ∙ going, more, can))
-        (account_pruned t book f run.account applied can (pruned (last_of f.editions) applied) (pruned_agrees t.model (last_of f.editions) book.latest applied latest_agrees))
+        let can : CanPrune t.model book.latest applied = subst (CanPrune t.model book.latest) (sym (is ∙ applying_same t.model (last_of f.editions) book.latest pairs (latest_agrees t es f run.replayed))) applied_can in
+        goes_on t es f run (prune applied ∷ []) _ (prune_goes t book run.turns applied (sym run.replayed.account.done ∙ going, more, can))
+        (account_pruned t book f run.replayed.account applied can (pruned (last_of f.editions) applied) (pruned_agrees t.model (last_of f.editions) book.latest applied (latest_agrees t es f run.replayed)))

@@ -10,18 +10,18 @@ use Rattle.sp_core.proofs.Picked.{picked_is, some_down}
 
 module _ (c : Contents) (ledger : IsLedger c) where
   pub work_is : (word : ℕ) → picked (task_of c.task) (state_of (parts_in c)) (marks_of c.taken) word ≡ picked_from c.improved c.taken word
-  work_is word = picked_is (task_of c.task) (state_of (parts_in c)) (account_in c) ledger.running.account c.taken word
+  work_is word = picked_is (task_of c.task) (state_of (parts_in c)) (account_in c) ledger.running.replayed.account c.taken word
 
   module _ (going : c.done ≡ false) where
     flag_down : all_improved (task_of c.task) (state_of (parts_in c)) ≡ false
     flag_down = by_turns ledger.running.turns
       where
         by_turns : IsBetweenTurns (task_of c.task) (state_of (parts_in c)) → all_improved (task_of c.task) (state_of (parts_in c)) ≡ false
-        by_turns (inl done) = absurd (let same = ledger.running.account.done in cc)
+        by_turns (inl done) = absurd (let same = ledger.running.replayed.account.done in cc)
         by_turns (inr (on, left, down)) = down
 
     pub some_work : 0 < length (neither c.improved c.improved)
-    some_work = some_down (task_of c.task) (state_of (parts_in c)) (account_in c) ledger.running.account c.taken flag_down
+    some_work = some_down (task_of c.task) (state_of (parts_in c)) (account_in c) ledger.running.replayed.account c.taken flag_down
 
     pub work_below : (word : ℕ) → picked_from c.improved c.taken word < c.task.options.beliefs
     work_below word = subst (λ (n : ℕ). n < c.task.options.beliefs) (work_is word) (picked_below (task_of c.task) (state_of (parts_in c)) (marks_of c.taken) flag_down word)

@@ -5,7 +5,7 @@ use Rattle.std.specs.List.{range_with_len}
 use Rattle.sp_theory.specs.Book.{Task, Book}
 use Rattle.sp_theory.specs.OneThread.{unmarked, open_beliefs, picked, all_improved}
 use Rattle.sp_theory.proofs.Extremes.{holds_below_not}
-use Rattle.sp_core.specs.Accounts.{Account, IsAccount}
+use Rattle.sp_ledger.specs.Accounts.{Account, IsAccount}
 use Rattle.sp_core.specs.Marks.{marks_of, is_free, neither, open_numbers, picked_from}
 use Rattle.sp_core.proofs.Counting.{filter_same, stands_at}
 

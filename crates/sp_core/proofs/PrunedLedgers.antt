@@ -18,7 +18,7 @@ use Rattle.sp_value.specs.Tasks.{TaskParts, task_of}
 use Rattle.sp_value.specs.Editions.{EditionParts, IsEdition, IsMemberOf, edition_of, member_of, members_in}
 use Rattle.sp_core.specs.declared.answers.Pruned.{Pruned}
 use Rattle.sp_core.specs.declared.answers.Pruned.TheVariants.{Dropped, Nothing, Over}
-use Rattle.sp_core.specs.Accounts.{Account, last_of}
+use Rattle.sp_ledger.specs.Accounts.{Account, last_of}
 use Rattle.sp_core.specs.Running.{IsRunning}
 use Rattle.sp_core.specs.Books.{BookParts, state_of}
 use Rattle.sp_drops.specs.Drops.{applying_ids, goes, left_by}
@@ -26,13 +26,13 @@ use Rattle.sp_core.specs.Dominated.{AreDominatedPairs}
 use Rattle.sp_core.specs.Ledgers.{Contents, parts_in, account_in, IsLedger}
 use Rattle.sp_core.specs.Settling.{IsOurs}
 use Rattle.sp_core.specs.Pruning.{AreDominatedIn, IsPruneOf, IsPruned, latest_in, left_in, pruned_in}
-use Rattle.sp_core.proofs.Running.{some_agree}
-use Rattle.sp_core.proofs.Dropping.{latest_agrees, applied_can, run_pruned}
-use Rattle.sp_core.proofs.Ours.{own_task, own_exists, own_members}
-use Rattle.sp_core.proofs.Distinct.{tidy_book}
+use Rattle.sp_ledger.proofs.Numbers.{numbered_more}
+use Rattle.sp_ledger.proofs.Replaying.{latest_agrees, some_agree}
+use Rattle.sp_core.proofs.Dropping.{applied_can, run_pruned}
+use Rattle.sp_ledger.proofs.Ours.{own_task, own_exists, own_members}
+use Rattle.sp_ledger.proofs.Distinct.{tidy_book}
 use Rattle.sp_core.proofs.Preparing.{some_edition, latest_task, latest_members}
 use Rattle.sp_core.proofs.PairLists.{pruned_members, applying_members}
-use Rattle.sp_core.proofs.SettledLedgers.{numbered_more}
 
 module _ (c : Contents) (ledger : IsLedger c) where
   abbrev t : Task
@@ -79,28 +79,28 @@ module _ (c : Contents) (ledger : IsLedger c) where
 
     own_pairs : AreDominatedPairs t.model (get_or f.editions e.number []) pairs
     own_pairs =
-        subst (λ (ed : theory.Edition). AreDominatedPairs t.model ed pairs) (own_members c ledger.numbered e ours)
-        (subst (λ (u : TaskParts). AreDominatedPairs (problem u.model) (members_in e) pairs) (own_task c ledger.numbered e ours) dominated)
+        subst (λ (ed : theory.Edition). AreDominatedPairs t.model ed pairs) (own_members c.task c.editions ledger.numbered e ours)
+        (subst (λ (u : TaskParts). AreDominatedPairs (problem u.model) (members_in e) pairs) (own_task c.task c.editions ledger.numbered e ours) dominated)
 
     abbrev book : Book
     book = state_of (parts_in c)
 
     -- the pairs that apply are those that apply to the state's latest edition
     pub applied_same : applying (last_of f.editions) pairs ≡ applying book.latest pairs
-    applied_same = applying_same t.model (last_of f.editions) book.latest pairs (latest_agrees t c.events f ledger.running)
+    applied_same = applying_same t.model (last_of f.editions) book.latest pairs (latest_agrees t c.events f ledger.running.replayed)
 
     -- something is left
     pub some_left : (applied : List (ℕ × ℕ)) → applied ≡ applying (last_of f.editions) pairs → 0 < length (left_by applied (latest_in c).members)
     some_left applied is =
-        let can = subst (CanPrune t.model book.latest) (sym (is ∙ applied_same)) (applied_can t c.events f ledger.running lawful some going e.number (own_exists c ledger.numbered e ours) pairs own_pairs) in
-        let filled = pruned_filled t.model book.latest applied (at_last (λ (ed : theory.Edition). 0 < length ed) book (tidy_book t lawful some c.events f ledger.running).filled) can in
-        let here : 0 < length (pruned (last_of f.editions) applied) = some_agree t.model (pruned (last_of f.editions) applied) (pruned book.latest applied) (pruned_agrees t.model (last_of f.editions) book.latest applied (latest_agrees t c.events f ledger.running)) filled in
+        let can = subst (CanPrune t.model book.latest) (sym (is ∙ applied_same)) (applied_can t c.events f ledger.running lawful some going e.number (own_exists c.task c.editions ledger.numbered e ours) pairs own_pairs) in
+        let filled = pruned_filled t.model book.latest applied (at_last (λ (ed : theory.Edition). 0 < length ed) book (tidy_book t lawful some c.events f ledger.running.replayed).filled) can in
+        let here : 0 < length (pruned (last_of f.editions) applied) = some_agree t.model (pruned (last_of f.editions) applied) (pruned book.latest applied) (pruned_agrees t.model (last_of f.editions) book.latest applied (latest_agrees t c.events f ledger.running.replayed)) filled in
         let count = ap (λ (ed : theory.Edition). length ed) (left_is applied) in
         omega (arith, here, count, length-map (left_by applied (latest_in c).members) (member_of c.task.model))
 
     pub pruned_ledger : (applied : List (ℕ × ℕ)) → applied ≡ applying (last_of f.editions) pairs → 0 < length applied → IsLedger (pruned_in c applied)
     pruned_ledger applied is more =
-        let running = run_pruned t c.events f ledger.running lawful some going e.number (own_exists c ledger.numbered e ours) pairs own_pairs applied is more in
+        let running = run_pruned t c.events f ledger.running lawful some going e.number (own_exists c.task c.editions ledger.numbered e ours) pairs own_pairs applied is more in
         let editions_is = map-append members_in c.editions (left_in c applied ∷ []) ∙ ap (λ (ed : theory.Edition). map members_in c.editions ++ ed ∷ []) (left_is applied) in
         let account_is : account_in (pruned_in c applied) ≡ record f { editions = f.editions ++ pruned (last_of f.editions) applied ∷ [] } = (λ i. let r : Account = record f { editions = editions_is i } in r) in
         let before = ledger.few in
@@ -116,7 +116,7 @@ module _ (c : Contents) (ledger : IsLedger c) where
 
     -- ---- the answers
     on : (answer : Pruned) (d : BookParts) → IsPruneOf (parts_in c) (applying book.latest pairs) answer d → IsPruned (parts_in c) e pairs answer d
-    on answer d step = subst (λ (b : Bool). MatchBool b ((answer ≡ Over) × (d ≡ parts_in c)) (IsOurs (parts_in c) e × IsPruneOf (parts_in c) (applying book.latest pairs) answer d)) (sym (sym ledger.running.account.done ∙ going)) (ours, step)
+    on answer d step = subst (λ (b : Bool). MatchBool b ((answer ≡ Over) × (d ≡ parts_in c)) (IsOurs (parts_in c) e × IsPruneOf (parts_in c) (applying book.latest pairs) answer d)) (sym (sym ledger.running.replayed.account.done ∙ going)) (ours, step)
 
     pub nothing_pruned : (applied : List (ℕ × ℕ)) → applied ≡ applying (last_of f.editions) pairs → length applied ≡ 0 → IsPruned (parts_in c) e pairs Nothing (parts_in c)
     nothing_pruned applied is none = on Nothing (parts_in c) (subst (λ (ps : List (ℕ × ℕ)). IsPruneOf (parts_in c) ps Nothing (parts_in c)) (is ∙ applied_same) (by_list applied none))

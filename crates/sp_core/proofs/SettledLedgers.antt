@@ -1,10 +1,8 @@
 -- A ledger after a settle that was planned.
-use Rattle.std.proofs.Common.{◌≡◌, ◌≢◌, ◌∙◌, sym, ap, subst, refl, arith, ℕ, zero, suc, ◌+◌, ◌-◌, ◌<◌, ◌≤◌, List, [], ◌∷◌, ◌++◌, length, map, get_or, replicate, Bool, true, false, cond, eqb, Option, Some, None, option_map, inl, inr, length-append, append_assoc, append-nil}
+use Rattle.std.proofs.Common.{◌≡◌, ◌≢◌, ◌∙◌, sym, ap, subst, refl, arith, ℕ, ◌+◌, ◌-◌, ◌<◌, ◌≤◌, List, [], ◌∷◌, ◌++◌, length, map, get_or, replicate, Bool, true, false, cond, eqb, Option, Some, None, option_map, inl, inr, length-append, append_assoc, append-nil}
 use Rattle.std.specs.Prelude.{ℤ, All, AllPairs, MatchBool}
 use Rattle.std.specs.List.{range_with_len}
 use Rattle.std.specs.Arc.{arc_value}
-use Rattle.std.proofs.Math.ListN.{get_or-append}
-use Rattle.std.proofs.Math.Seq.{get_or-append_seam}
 use Rattle.std.proofs.lemmas.List.{map-append, length-map, length-replicate}
 use Rattle.std.proofs.lemmas.List.Elements.{All-push, All-nil}
 use Rattle.sp_theory.specs.Model.{IsLawful}
@@ -13,7 +11,6 @@ use Rattle.sp_theory.specs.Book.{Task, Book, Event, publish, end, after_event}
 use Rattle.sp_theory.specs.OneThread.{IsBetweenTurns, all_improved, due_events}
 use Rattle.sp_theory.proofs.Agreement.{greatest_member_agrees}
 use Rattle.sp_theory.proofs.Extremes.{holds_below_not}
-use Rattle.sp_theory.proofs.Order.{by_order}
 use Rattle.sp_model.specs.Problem.{vector_of}
 use Rattle.sp_model.proofs.RowLaw.{problem_lawful}
 use Rattle.sp_value.specs.declared.editions.Member.{Member}
@@ -22,23 +19,25 @@ use Rattle.sp_value.specs.Editions.{EditionParts, IsMemberOf, member_of, members
 use Rattle.sp_value.specs.Candidates.{CandidateParts, IsCandidate}
 use Rattle.sp_core.specs.declared.answers.Settled.{Settled}
 use Rattle.sp_core.specs.declared.answers.Settled.TheVariants.{Added, Kept, Late, Over}
-use Rattle.sp_core.specs.declared.flags.Choice.{Choice}
-use Rattle.sp_core.specs.declared.flags.Choice.TheVariants.{Neither, New, Old}
+use Rattle.sp_ledger.specs.declared.flags.Choice.{Choice}
+use Rattle.sp_ledger.specs.declared.flags.Choice.TheVariants.{Neither, New, Old}
 use Rattle.sp_core.specs.declared.plans.Plan.{Plan}
 use Rattle.sp_core.specs.declared.plans.Plan.TheVariants.{RecordOnly, EnterNew, EnterOld}
-use Rattle.sp_core.specs.Accounts.{Account, IsAccount, raised_at, lifted_to, last_of, AreWorths}
+use Rattle.sp_ledger.specs.Accounts.{Account, IsAccount, raised_at, lifted_to, last_of, AreWorths}
 use Rattle.sp_core.specs.Running.{IsRunning}
-use Rattle.sp_core.specs.Choices.{by_choice}
-use Rattle.sp_core.specs.Books.{AreNumbered, state_of}
+use Rattle.sp_ledger.specs.Choices.{by_choice}
+use Rattle.sp_ledger.specs.Opening.{AreNumbered}
+use Rattle.sp_ledger.proofs.Numbers.{numbered_more, down_at}
+use Rattle.sp_core.specs.Books.{state_of}
 use Rattle.sp_core.specs.Ledgers.{Contents, parts_in, account_in, IsLedger, recorded, with_member, is_last, published, entered_with}
 use Rattle.sp_core.specs.Settling.{IsOurs, settle_of, events_for, answer_for, taken_after, IsSettled, IsSettledBy}
 use Rattle.sp_core.specs.Plans.{is_up, IsDue, new_member, choice_for, IsGreatestAtBelief, IsPlan, after_plan, answer_to}
 use Rattle.sp_core.proofs.Running.{still_down, nothing_due, all_up, publication_due, end_due}
-use Rattle.sp_core.proofs.Entering.{account_late, account_new, account_kept, book_chooses}
-use Rattle.sp_core.proofs.Dropping.{latest_agrees}
-use Rattle.sp_core.proofs.Changes.{raised_list, lifted_list}
-use Rattle.sp_core.proofs.Ours.{own_exists, own_belief, own_backup, own_stepped}
-use Rattle.sp_core.proofs.Distinct.{different_with, tidy_book, next_new, greatest_new}
+use Rattle.sp_ledger.proofs.Entering.{account_late, account_new, account_kept, book_chooses}
+use Rattle.sp_ledger.proofs.Replaying.{latest_agrees}
+use Rattle.sp_ledger.proofs.Changes.{raised_list, lifted_list}
+use Rattle.sp_ledger.proofs.Ours.{own_exists, own_belief, own_backup, own_stepped}
+use Rattle.sp_ledger.proofs.Distinct.{different_with, tidy_book, next_new, greatest_new}
 
 -- a ledger that a settle with what is due has changed
 pub record IsSettledLedger (c : Contents) (d : CandidateParts) (e : Contents) : Type 0 where
@@ -53,20 +52,6 @@ old_down : (r g l : Bool) → cond r (cond g New Neither) (cond l Old New) ≡ O
 old_down true true l e = absurd (cc)
 old_down true false l e = absurd (cc)
 old_down false g l e = refl
-
--- one more edition of the task
-pub numbered_more : (t : TaskParts) (es : List EditionParts) (e : EditionParts) → AreNumbered t es → e.number ≡ length es → e.task ≡ t → AreNumbered t (es ++ e ∷ [])
-numbered_more t es e numbered number task k d less =
-    by_order k (length es)
-    (λ before. subst (λ (x : EditionParts). (x.number ≡ k) × (x.task ≡ t)) (sym (get_or-append es (e ∷ []) d k before)) (numbered k d before))
-    (λ last. subst (λ (i : ℕ). ((get_or (es ++ e ∷ []) i d).number ≡ i) × ((get_or (es ++ e ∷ []) i d).task ≡ t)) (sym last)
-    (subst (λ (x : EditionParts). (x.number ≡ length es) × (x.task ≡ t)) (sym (get_or-append_seam es e [] d)) (number, task)))
-    (λ past. absurd (omega (arith, less, length-append es (e ∷ []))))
-
-pub down_at : (n k : ℕ) → get_or (replicate n false) k false ≡ false
-down_at zero k = refl
-down_at (suc n) zero = refl
-down_at (suc n) (suc k) = down_at n k
 
 module _ (c : Contents) (ledger : IsLedger c) (going : c.done ≡ false) (d : CandidateParts) (is : IsCandidate d) (ours : IsOurs (parts_in c) d.base) where
   abbrev t : Task
@@ -86,17 +71,17 @@ module _ (c : Contents) (ledger : IsLedger c) (going : c.done ≡ false) (d : Ca
 
   -- ---- ids
   pub different_new : AllPairs (λ (y z : Member). y.id ≢ z.id) (c.grown ++ new_member c d ∷ [])
-  different_new = different_with c.task.model t.model c.grown book.grown ledger.running.account.grown (tidy_book t lawful some c.events f ledger.running).grown_apart (new_member c d) (next_new t lawful some c.events f ledger.running going)
+  different_new = different_with c.task.model t.model c.grown book.grown ledger.running.replayed.account.grown (tidy_book t lawful some c.events f ledger.running.replayed).grown_apart (new_member c d) (next_new t lawful some c.events f ledger.running.replayed going)
 
   pub different_old : choice_for c d ≡ Old → (x : Member) → IsGreatestAtBelief c d.belief x → AllPairs (λ (y z : Member). y.id ≢ z.id) (c.grown ++ x ∷ [])
   different_old old x greatest =
-      different_with c.task.model t.model c.grown book.grown ledger.running.account.grown (tidy_book t lawful some c.events f ledger.running).grown_apart x
-      (λ k e less same. greatest_new t lawful some c.events f ledger.running going d.belief (own_belief c ledger.numbered d is ours) (old_down _ _ _ old) k e less
-      (same ∙ ap (λ (y : theory.Member). y.id) greatest ∙ (greatest_member_agrees t.model (last_of f.editions) book.latest (t.samples d.belief) (t.samples d.belief) (latest_agrees t c.events f ledger.running) (λ s p. refl)).0))
+      different_with c.task.model t.model c.grown book.grown ledger.running.replayed.account.grown (tidy_book t lawful some c.events f ledger.running.replayed).grown_apart x
+      (λ k e less same. greatest_new t lawful some c.events f ledger.running.replayed going d.belief (own_belief c.task c.editions ledger.numbered d is ours) (old_down _ _ _ old) k e less
+      (same ∙ ap (λ (y : theory.Member). y.id) greatest ∙ (greatest_member_agrees t.model (last_of f.editions) book.latest (t.samples d.belief) (t.samples d.belief) (latest_agrees t c.events f ledger.running.replayed) (λ s p. refl)).0))
 
   -- ---- the account
   within : d.belief < t.beliefs
-  within = own_belief c ledger.numbered d is ours
+  within = own_belief c.task c.editions ledger.numbered d is ours
 
   abbrev next : Book
   next = after_event t book (settle_of d)
@@ -116,16 +101,16 @@ module _ (c : Contents) (ledger : IsLedger c) (going : c.done ≡ false) (d : Ca
 
   new_enters : choice_for c d ≡ New → AreWorths t (vector_of c.task.model d.vector) c.worths → Enters (new_member c d)
   new_enters chosen worths = subst (IsAccount t next) (sym (account_entered_is (new_member c d)))
-      (account_new t c.events f ledger.running lawful some going d.belief d.base.number d.action d.links within (own_exists c ledger.numbered d.base ours) (own_backup c ledger.numbered d is ours) (vector_of c.task.model d.vector) (own_stepped c ledger.numbered d is ours) New chosen
+      (account_new t c.events f ledger.running.replayed lawful some going d.belief d.base.number d.action d.links within (own_exists c.task c.editions ledger.numbered d.base ours) (own_backup c.task c.editions ledger.numbered d is ours) (vector_of c.task.model d.vector) (own_stepped c.task c.editions ledger.numbered d is ours) New chosen
       (member_of c.task.model (new_member c d)) c.worths worths _ (raised_list c.worths c.latest_values c.improved) _ (lifted_list (eqb (length f.grown) 0) c.worths c.grown_values) refl refl)
 
   old_enters : choice_for c d ≡ Old → (x : Member) → IsGreatestAtBelief c d.belief x → AreWorths t (vector_of c.task.model x.vector) c.worths → Enters x
   old_enters chosen x greatest worths = subst (IsAccount t next) (sym (account_entered_is x))
-      (account_kept t c.events f ledger.running lawful some going d.belief d.base.number d.action d.links within (own_exists c ledger.numbered d.base ours) (own_backup c ledger.numbered d is ours) (vector_of c.task.model d.vector) (own_stepped c ledger.numbered d is ours) Old chosen
+      (account_kept t c.events f ledger.running.replayed lawful some going d.belief d.base.number d.action d.links within (own_exists c.task c.editions ledger.numbered d.base ours) (own_backup c.task c.editions ledger.numbered d is ours) (vector_of c.task.model d.vector) (own_stepped c.task c.editions ledger.numbered d is ours) Old chosen
       (member_of c.task.model x) c.worths worths _ (raised_list c.worths c.latest_values c.improved) _ (lifted_list (eqb (length f.grown) 0) c.worths c.grown_values) refl greatest)
 
   record_enters : choice_for c d ≡ Neither → IsAccount t next (account_in first)
-  record_enters chosen = account_late t c.events f ledger.running lawful some going d.belief d.base.number d.action d.links within (own_exists c ledger.numbered d.base ours) (own_backup c ledger.numbered d is ours) (vector_of c.task.model d.vector) (own_stepped c ledger.numbered d is ours) Neither chosen refl
+  record_enters chosen = account_late t c.events f ledger.running.replayed lawful some going d.belief d.base.number d.action d.links within (own_exists c.task c.editions ledger.numbered d.base ours) (own_backup c.task c.editions ledger.numbered d is ours) (vector_of c.task.model d.vector) (own_stepped c.task c.editions ledger.numbered d is ours) Neither chosen refl
 
   -- ---- nothing is due
   few : c.records + 1 ≤ length (c.events ++ settle_of d ∷ []) + 1
@@ -134,8 +119,8 @@ module _ (c : Contents) (ledger : IsLedger c) (going : c.done ≡ false) (d : Ca
   undue : (e : Contents) → e.task ≡ c.task → e.events ≡ c.events ++ settle_of d ∷ [] → e.editions ≡ c.editions → e.taken ≡ c.taken → length e.worths ≡ length c.worths → e.records ≡ c.records + 1 → All (IsMemberOf e.task.model) e.grown
       → IsAccount t next (account_in e) → (j : ℕ) → j < t.beliefs → get_or e.improved j false ≡ false → IsSettledLedger c d e
   undue e task events editions taken worths records grown account j less down =
-      let still = still_down t c.events f ledger.running lawful some going d.belief d.base.number d.action d.links within (own_exists c ledger.numbered d.base ours) (own_backup c ledger.numbered d is ours) (account_in e) account j less down in
-      let (due, running) = nothing_due t c.events f ledger.running lawful some going d.belief d.base.number d.action d.links within (own_exists c ledger.numbered d.base ours) (own_backup c ledger.numbered d is ours) (account_in e) account j less down in
+      let still = still_down t c.events f ledger.running lawful some going d.belief d.base.number d.action d.links within (own_exists c.task c.editions ledger.numbered d.base ours) (own_backup c.task c.editions ledger.numbered d is ours) (account_in e) account j less down in
+      let (due, running) = nothing_due t c.events f ledger.running lawful some going d.belief d.base.number d.action d.links within (own_exists c.task c.editions ledger.numbered d.base ours) (own_backup c.task c.editions ledger.numbered d is ours) (account_in e) account j less down in
       record {
         ledger = record {
           task = subst IsTask (sym task) ledger.task;
@@ -158,8 +143,8 @@ module _ (c : Contents) (ledger : IsLedger c) (going : c.done ≡ false) (d : Ca
   some_down = by_turns ledger.running.turns
     where
       by_turns : IsBetweenTurns t book → (j : ℕ) × (j < t.beliefs) × (get_or c.improved j false ≡ false)
-      by_turns (inl done) = absurd (let same = ledger.running.account.done in cc)
-      by_turns (inr (on, left, down)) = let (j, less, low) = holds_below_not t.beliefs book.improved down in (j, less, ledger.running.account.improved j less ∙ low)
+      by_turns (inl done) = absurd (let same = ledger.running.replayed.account.done in cc)
+      by_turns (inr (on, left, down)) = let (j, less, low) = holds_below_not t.beliefs book.improved down in (j, less, ledger.running.replayed.account.improved j less ∙ low)
 
   settled_record_only : choice_for c d ≡ Neither → IsSettledLedger c d first
   settled_record_only chosen = let (j, less, low) = some_down in undue first refl refl refl refl refl refl ledger.grown (record_enters chosen) j less low
@@ -173,7 +158,7 @@ module _ (c : Contents) (ledger : IsLedger c) (going : c.done ≡ false) (d : Ca
     raised = (raised_list c.worths c.latest_values c.improved).each
 
     flags_count : length c.improved ≡ t.beliefs
-    flags_count = ledger.running.account.flags
+    flags_count = ledger.running.replayed.account.flags
 
     settled_undue : (j : ℕ) → j < length c.improved → is_up c j ≡ false → IsSettledLedger c d with_x
     settled_undue j less low = undue with_x refl refl refl refl refl refl (All-push (IsMemberOf c.task.model) c.grown x ledger.grown known) enters j (subst (λ (n : ℕ). j < n) flags_count less) (raised j less ∙ low)
@@ -239,14 +224,14 @@ module _ (c : Contents) (ledger : IsLedger c) (going : c.done ≡ false) (d : Ca
 
           by_last : (b : Bool) → eqb (c.stages_left - 1) 0 ≡ b → IsSettledLedger c d (made b)
           by_last false more =
-              let (due, running) = publication_due t c.events f ledger.running lawful some going d.belief d.base.number d.action d.links within (own_exists c ledger.numbered d.base ours) (own_backup c ledger.numbered d is ours) g enters all_raised filled (replicate (length with_x.improved) false) count (λ j less. down_at (length with_x.improved) j) more in
+              let (due, running) = publication_due t c.events f ledger.running lawful some going d.belief d.base.number d.action d.links within (own_exists c.task c.editions ledger.numbered d.base ours) (own_backup c.task c.editions ledger.numbered d is ours) g enters all_raised filled (replicate (length with_x.improved) false) count (λ j less. down_at (length with_x.improved) j) more in
               settled_made false (publish ∷ []) refl due
-              (all_up t c.events f ledger.running lawful some going d.belief d.base.number d.action d.links within (own_exists c ledger.numbered d.base ours) (own_backup c ledger.numbered d is ours) g enters all_raised filled (replicate (length with_x.improved) false) count (λ j less. down_at (length with_x.improved) j))
+              (all_up t c.events f ledger.running lawful some going d.belief d.base.number d.action d.links within (own_exists c.task c.editions ledger.numbered d.base ours) (own_backup c.task c.editions ledger.numbered d is ours) g enters all_raised filled (replicate (length with_x.improved) false) count (λ j less. down_at (length with_x.improved) j))
               (subst (IsRunning t (c.events ++ settle_of d ∷ publish ∷ [])) (sym (made_account false)) running)
           by_last true none =
-              let (due, running) = end_due t c.events f ledger.running lawful some going d.belief d.base.number d.action d.links within (own_exists c ledger.numbered d.base ours) (own_backup c ledger.numbered d is ours) g enters all_raised filled (replicate (length with_x.improved) false) count (λ j less. down_at (length with_x.improved) j) none in
+              let (due, running) = end_due t c.events f ledger.running lawful some going d.belief d.base.number d.action d.links within (own_exists c.task c.editions ledger.numbered d.base ours) (own_backup c.task c.editions ledger.numbered d is ours) g enters all_raised filled (replicate (length with_x.improved) false) count (λ j less. down_at (length with_x.improved) j) none in
               settled_made true (publish ∷ end ∷ []) refl due
-              (all_up t c.events f ledger.running lawful some going d.belief d.base.number d.action d.links within (own_exists c ledger.numbered d.base ours) (own_backup c ledger.numbered d is ours) g enters all_raised filled (replicate (length with_x.improved) false) count (λ j less. down_at (length with_x.improved) j))
+              (all_up t c.events f ledger.running lawful some going d.belief d.base.number d.action d.links within (own_exists c.task c.editions ledger.numbered d.base ours) (own_backup c.task c.editions ledger.numbered d is ours) g enters all_raised filled (replicate (length with_x.improved) false) count (λ j less. down_at (length with_x.improved) j))
               (subst (IsRunning t (c.events ++ settle_of d ∷ publish ∷ end ∷ [])) (sym (made_account true)) running)
 
     settled_entered : (next : Option EditionParts) → IsDue c x next → IsSettledLedger c d (entered_with first x next)
@@ -261,14 +246,14 @@ module _ (c : Contents) (ledger : IsLedger c) (going : c.done ≡ false) (d : Ca
 
   -- ---- the answer
   old_id : (x : Member) → IsGreatestAtBelief c d.belief x → x.id ≡ (theory.greatest_member t.model book.latest (t.samples d.belief)).id
-  old_id x greatest = ap (λ (y : theory.Member). y.id) greatest ∙ (greatest_member_agrees t.model (last_of f.editions) book.latest (t.samples d.belief) (t.samples d.belief) (latest_agrees t c.events f ledger.running) (λ s p. refl)).0
+  old_id x greatest = ap (λ (y : theory.Member). y.id) greatest ∙ (greatest_member_agrees t.model (last_of f.editions) book.latest (t.samples d.belief) (t.samples d.belief) (latest_agrees t c.events f ledger.running.replayed) (λ s p. refl)).0
 
   chosen_answer : (choice : Choice) → choice_for c d ≡ choice → answer_for (parts_in c) d ≡ by_choice choice Late (Added (length book.records)) (Kept (theory.greatest_member t.model book.latest (t.samples d.belief)).id)
-  chosen_answer choice chosen = book_chooses t c.events f ledger.running lawful some going d.belief d.base.number d.action d.links within (own_exists c ledger.numbered d.base ours) (own_backup c ledger.numbered d is ours) (vector_of c.task.model d.vector) (own_stepped c ledger.numbered d is ours) choice chosen Late (Added (length book.records)) (Kept (theory.greatest_member t.model book.latest (t.samples d.belief)).id)
+  chosen_answer choice chosen = book_chooses t c.events f ledger.running.replayed lawful some going d.belief d.base.number d.action d.links within (own_exists c.task c.editions ledger.numbered d.base ours) (own_backup c.task c.editions ledger.numbered d is ours) (vector_of c.task.model d.vector) (own_stepped c.task c.editions ledger.numbered d is ours) choice chosen Late (Added (length book.records)) (Kept (theory.greatest_member t.model book.latest (t.samples d.belief)).id)
 
   pub answer_plan : (plan : Plan) → IsPlan c d plan → answer_to c plan ≡ answer_for (parts_in c) d
   answer_plan RecordOnly chosen = sym (chosen_answer Neither chosen)
-  answer_plan (EnterNew e) (chosen, entry) = ap Added ledger.running.account.records ∙ sym (chosen_answer New chosen)
+  answer_plan (EnterNew e) (chosen, entry) = ap Added ledger.running.replayed.account.records ∙ sym (chosen_answer New chosen)
   answer_plan (EnterOld x e) (chosen, greatest, entry) = ap Kept (old_id x greatest) ∙ sym (chosen_answer Old chosen)
 
 -- other worths change nothing else
@@ -288,7 +273,7 @@ settled_all c planned done ws ledger going is count d known ours plan fits is_do
     let fit = subst (λ (x : Contents). IsPlan x d plan) is fits in
     let after = subst (λ (x : Contents). IsSettledLedger own d x) (sym (is_done ∙ ap (λ (x : Contents). after_plan x d plan) is)) (settled_plan own good going d known ours plan fit) in (
       after.ledger,
-      subst (λ (b : Bool). MatchBool b ((answer ≡ Over) × (parts_in done ≡ parts_in c)) (IsOurs (parts_in c) d.base × (answer ≡ answer_for (parts_in c) d) × IsSettledBy (parts_in c) d (parts_in done))) (sym (sym ledger.running.account.done ∙ going)) (
+      subst (λ (b : Bool). MatchBool b ((answer ≡ Over) × (parts_in done ≡ parts_in c)) (IsOurs (parts_in c) d.base × (answer ≡ answer_for (parts_in c) d) × IsSettledBy (parts_in c) d (parts_in done))) (sym (sym ledger.running.replayed.account.done ∙ going)) (
         ours,
         is_answer ∙ ap (λ (x : Contents). answer_to x plan) is ∙ answer_plan own good going d known ours plan fit,
         record { task = after.task; history = after.history; editions = after.editions; taken = after.taken },

@@ -1,5 +1,5 @@
 -- What contracts see of a book, and what its type keeps.
-use Rattle.std.specs.Prelude.{◌≡◌, ℕ, ◌<◌, List, length, get_or, map, Bool}
+use Rattle.std.specs.Prelude.{◌≡◌, List, length, map, Bool}
 use Rattle.sp_theory.specs.Book.{Book, Event, opening, editions}
 use Rattle.sp_theory.specs.Runs.{IsHistory, replay, IsPrompt}
 use Rattle.sp_theory.specs.OneThread.{IsBetweenTurns}
@@ -7,6 +7,7 @@ use Rattle.sp_theory.specs.Agreement.{AllAgree}
 use Rattle.sp_model.specs.Problem.{problem}
 use Rattle.sp_value.specs.Tasks.{TaskParts, IsTask, task_of}
 use Rattle.sp_value.specs.Editions.{EditionParts, members_in}
+use Rattle.sp_ledger.specs.Opening.{AreNumbered}
 
 -- a book as its task, its events, its editions and its marks
 pub record BookParts : Type 0 where
@@ -21,10 +22,6 @@ pub record BookParts : Type 0 where
 -- the book that the history leads to
 abbrev pub state_of : BookParts → Book
 state_of b = replay (task_of b.task) (opening (task_of b.task)) b.history
-
--- the editions are of the task, and numbered from 0
-abbrev pub AreNumbered : TaskParts → List EditionParts → Type 0
-AreNumbered t es = (k : ℕ) (d : EditionParts) → k < length es → ((get_or es k d).number ≡ k) × ((get_or es k d).task ≡ t)
 
 -- what the type of books keeps: the history is allowed and prompt, no publication and no end is due, and the editions are those that it leads to
 pub record IsBook (b : BookParts) : Type 0 where

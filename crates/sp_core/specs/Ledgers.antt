@@ -8,9 +8,10 @@ use Rattle.sp_value.specs.Tasks.{TaskParts, IsTask, task_of}
 use Rattle.sp_value.specs.Editions.{EditionParts, IsMemberOf, edition_of, members_in}
 use Rattle.sp_value.specs.Events.{events_of}
 use Rattle.sp_core.specs.declared.ledger.Ledger.{Ledger}
-use Rattle.sp_core.specs.Accounts.{Account, raised_at, lifted_to}
+use Rattle.sp_ledger.specs.Accounts.{Account, raised_at, lifted_to}
 use Rattle.sp_core.specs.Running.{IsRunning}
-use Rattle.sp_core.specs.Books.{BookParts, AreNumbered}
+use Rattle.sp_ledger.specs.Opening.{AreNumbered}
+use Rattle.sp_core.specs.Books.{BookParts}
 
 -- a ledger as lists and numbers
 pub record Contents : Type 0 where

@@ -1,10 +1,7 @@
-pub mod Accounts
 pub mod Running
 pub mod Marks
 pub mod Dominated
-pub mod Choices
 pub mod Books
-pub mod Listed
 pub mod Ledgers
 pub mod Opening
 pub mod Settling

@@ -9,12 +9,12 @@ use Rattle.sp_value.specs.Editions.{EditionParts, IsMemberOf, member_of}
 use Rattle.sp_value.specs.Candidates.{CandidateParts}
 use Rattle.sp_core.specs.declared.answers.Settled.{Settled}
 use Rattle.sp_core.specs.declared.answers.Settled.TheVariants.{Added, Kept, Late}
-use Rattle.sp_core.specs.declared.flags.Choice.{Choice}
-use Rattle.sp_core.specs.declared.flags.Choice.TheVariants.{Neither, New, Old}
+use Rattle.sp_ledger.specs.declared.flags.Choice.{Choice}
+use Rattle.sp_ledger.specs.declared.flags.Choice.TheVariants.{Neither, New, Old}
 use Rattle.sp_core.specs.declared.ledger.Ledger.{Ledger}
 use Rattle.sp_core.specs.declared.plans.Plan.{Plan}
 use Rattle.sp_core.specs.declared.plans.Plan.TheVariants.{RecordOnly, EnterNew, EnterOld}
-use Rattle.sp_core.specs.Accounts.{AreWorths, raised_at, by_account, last_of}
+use Rattle.sp_ledger.specs.Accounts.{AreWorths, raised_at, by_account, last_of}
 use Rattle.sp_core.specs.Ledgers.{Contents, account_in, recorded, entered_with}
 use Rattle.sp_core.specs.Settling.{settle_of}
 

@@ -11,7 +11,7 @@ use Rattle.sp_core.specs.declared.answers.Settled.{Settled}
 use Rattle.sp_core.specs.declared.answers.Settled.TheVariants.{Added, Kept, Late, Over}
 use Rattle.sp_core.specs.declared.answers.SettleError.{SettleError}
 use Rattle.sp_core.specs.declared.answers.SettleError.TheVariants.{NotOurs, NoMemory}
-use Rattle.sp_core.specs.Accounts.{by_values}
+use Rattle.sp_ledger.specs.Accounts.{by_values}
 use Rattle.sp_core.specs.Books.{BookParts, state_of}
 
 -- the edition is one of the book's

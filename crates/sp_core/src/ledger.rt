@@ -3,8 +3,7 @@
 ghost use Rattle.std.specs.Prelude.{◌≡◌, ◌+◌, ◌<◌, ◌≤◌, option_map, vec_len, vec_capacity, length};
 ghost use Rattle.std.specs.Arc.{arc_value};
 
-use crate::flags::{lift, raise};
-use crate::listed::ListedTask;
+use sp_ledger::{ListedTask, lift, raise};
 use sp_value::{Edition, Event, Member};
 use std::alloc::Global;
 use std::mem;

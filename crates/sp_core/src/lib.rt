@@ -7,17 +7,13 @@
 
 mod answers;
 mod book;
-mod flags;
 mod laws;
 mod ledger;
-mod listed;
-mod members;
 mod opening;
 mod picking;
 mod plans;
 mod pruning;
 mod settling;
-mod worths;
 
 pub use answers::{PruneError, Pruned, SettleError, Settled};
 pub use book::Book;

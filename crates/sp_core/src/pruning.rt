@@ -6,14 +6,14 @@ ghost use Rattle.sp_theory.specs.OneThread.{applying};
 
 use crate::answers::{PruneError, Pruned};
 use crate::ledger::Ledger;
-use crate::members::shared_edition;
 use sp_dd::{NoMemory, Pairs};
 use sp_drops::{applied, left};
+use sp_ledger::shared_edition;
 use sp_value::{Edition, Event};
 use std::sync::Arc;
 
 impl Ledger {
-    ghost use Rattle.sp_core.specs.Accounts.{last_of};
+    ghost use Rattle.sp_ledger.specs.Accounts.{last_of};
     ghost use Rattle.sp_drops.specs.Drops.{left_by};
     ghost use Rattle.sp_core.specs.Ledgers.{account_in, contents, parts_in, IsLedger};
     ghost use Rattle.sp_core.specs.Settling.{IsOurs};

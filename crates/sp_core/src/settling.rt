@@ -8,12 +8,12 @@ ghost use Rattle.sp_value.specs.Editions.{IsMemberOf};
 ghost use Rattle.sp_value.specs.Candidates.{IsCandidate};
 
 use crate::answers::{SettleError, Settled};
-use crate::flags::{Choice, are_all_raised, choose};
 use crate::ledger::Ledger;
-use crate::members::{greatest_at, shared_edition, with_one_more};
 use crate::plans::Plan;
-use crate::worths::{weigh, worth};
 use sp_dd::NoMemory;
+use sp_ledger::{
+    Choice, are_all_raised, choose, greatest_at, shared_edition, weigh, with_one_more, worth,
+};
 use sp_model::Func;
 use sp_value::{Candidate, Edition, Event, Member};
 use std::sync::Arc;

@@ -1,11 +1,9 @@
 -- Books that stand later in a run.
-use Rattle.std.proofs.Common.{◌≡◌, ◌∙◌, sym, ap, ℕ, List, [], ◌∷◌, ◌++◌, append_assoc, Bool, true, false, cond}
+use Rattle.std.proofs.Common.{◌≡◌, ◌∙◌, sym, ap, List, [], ◌++◌, append_assoc, Bool, true, false, cond}
 use Rattle.std.proofs.lemmas.List.{append-nil}
 use Rattle.sp_theory.specs.Book.{Event}
-use Rattle.sp_theory.specs.OneThread.{settled_at, due_events}
-use Rattle.sp_value.specs.Tasks.{task_of}
-use Rattle.sp_core.specs.Books.{BookParts, state_of}
-use Rattle.sp_planner.specs.Turns.{IsLater, IsBackedUp, IsPruning, settled_state, prune_due}
+use Rattle.sp_core.specs.Books.{BookParts}
+use Rattle.sp_planner.specs.Turns.{IsLater}
 
 pub later_same : (b d : BookParts) → d ≡ b → IsLater b d
 later_same b d same = record { task = ap (λ (x : BookParts). x.task) same; more = []; history = ap (λ (x : BookParts). x.history) same ∙ sym (append-nil b.history) }
@@ -16,12 +14,6 @@ later_then b d e first next = record {
   more = first.more ++ next.more;
   history = next.history ∙ ap (λ (es : List Event). es ++ next.more) first.history ∙ append_assoc b.history first.more next.more;
 }
-
-pub later_backed : (b : BookParts) (k : ℕ) (d : BookParts) → IsBackedUp b k d → IsLater b d
-later_backed b k d by = record { task = by.task; more = settled_at (task_of b.task) (state_of b) k ∷ due_events (task_of b.task) false (settled_state b k); history = by.history }
-
-pub later_pruned : (pruning : Bool) (b d : BookParts) → IsPruning pruning b d → IsLater b d
-later_pruned pruning b d by = record { task = by.task; more = prune_due pruning b; history = by.history }
 
 -- a mark changes no event
 pub later_taken : (c : Bool) (b d : BookParts) (marks : List Bool) → d ≡ cond c b (record b { taken = marks }) → IsLater b d

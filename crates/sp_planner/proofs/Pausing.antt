@@ -67,7 +67,3 @@ module _ {S : Type 0} (serves : S → BookParts → S → Type 0) (t : TaskParts
 
   pub served_last : (all left : List (List Event)) (s e : S) → IsServedSoFar serves t all left s e → left ≡ [] → IsServed serves t all s e
   served_last all left s e so none = subst (λ (ps : List (List Event)). IsServed serves t ps s e) (sym (so.ahead ∙ ap (λ (ps : List (List Event)). so.past ++ ps) none ∙ append-nil so.past)) so.served
-
-  -- the first pause
-  pub served_first : (first : List Event) (rest : List (List Event)) (s e : S) → IsServedAt serves t first s e → IsServedSoFar serves t (first ∷ rest) rest s e
-  served_first first rest s e at = record { past = first ∷ []; ahead = refl; served = (e, at, refl) }

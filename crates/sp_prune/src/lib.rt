@@ -97,7 +97,7 @@ fn may_go(alloc: Global, model: &Model, member: &Member, other: &Member) -> Resu
 }
 
 /// Whether a member's vector is at no state above another's.
-fn is_nowhere_above(
+pub fn is_nowhere_above(
     alloc: Global,
     model: &Model,
     member: &Member,

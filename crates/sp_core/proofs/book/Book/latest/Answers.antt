@@ -5,7 +5,8 @@ use Rattle.std.proofs.lemmas.List.{places}
 use Rattle.std.proofs.lemmas.Option.{slice_get-get_or}
 use Rattle.sp_core.specs.Books.{BookParts}
 use Rattle.sp_core.specs.Ledgers.{contents}
-use Rattle.sp_core.proofs.Preparing.{read_last, some_edition}
+use Rattle.sp_ledger.proofs.Reading.{read_last}
+use Rattle.sp_core.proofs.Preparing.{some_edition}
 use Rattle.sp_core.proofs.book.Book.latest.Goals as goal
 
 pub returns : goal.returns

@@ -33,7 +33,7 @@ pub returns-clause-answer : goal.returns-clause-answer
 returns-clause-answer c =
     let own = contents c.self.inside.ledger in
     let is = c.pick-belief.ensures ∙ (λ i. picked_from (c.deref.ensures.value i) (c.deref-2.ensures.value i) c.args.word) in
-    let going : (state_of (parts_in own)).done ≡ false = sym c.self.invariant.running.account.done ∙ c.if-self.false in
+    let going : (state_of (parts_in own)).done ≡ false = sym c.self.invariant.running.replayed.account.done ∙ c.if-self.false in
     subst (λ (b : BookParts). Some c.pick-belief.result ≡ cond (state_of b).done None (Some (picked (task_of b.task) (state_of b) (marks_of b.taken) c.args.word))) c.self.view_is
     (ap Some (is ∙ sym (work_is own c.self.invariant c.args.word)) ∙ ap (λ (d : Bool). cond d None (Some (picked (task_of own.task) (state_of (parts_in own)) (marks_of own.taken) c.args.word))) (sym going))
 
@@ -41,7 +41,7 @@ pub returns-clause-taken : goal.returns-clause-taken
 returns-clause-taken c =
     let own = contents c.self.inside.ledger in
     let is = c.pick-belief.ensures ∙ (λ i. picked_from (c.deref.ensures.value i) (c.deref-2.ensures.value i) c.args.word) in
-    let going : (state_of (parts_in own)).done ≡ false = sym c.self.invariant.running.account.done ∙ c.if-self.false in
+    let going : (state_of (parts_in own)).done ≡ false = sym c.self.invariant.running.replayed.account.done ∙ c.if-self.false in
     let found = is ∙ sym (work_is own c.self.invariant c.args.word) in
     let marked : BookParts = record (parts_in own) { taken = slice_set own.taken (picked (task_of own.task) (state_of (parts_in own)) (marks_of own.taken) c.args.word) true } in
     subst (λ (b : BookParts). parts_in (record own { taken = slice_set own.taken c.pick-belief.result true }) ≡ cond (state_of b).done b (record b { taken = slice_set b.taken (picked (task_of b.task) (state_of b) (marks_of b.taken) c.args.word) true })) c.self.view_is

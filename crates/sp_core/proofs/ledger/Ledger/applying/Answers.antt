@@ -2,7 +2,8 @@ use Rattle.std.proofs.Common.{◌≡◌, ◌∙◌, rules, length, vec_len}
 use Rattle.std.specs.Arc.{arc_value}
 use Rattle.std.proofs.lemmas.List.{places}
 use Rattle.sp_core.specs.Ledgers.{contents}
-use Rattle.sp_core.proofs.Preparing.{read_last, some_edition}
+use Rattle.sp_ledger.proofs.Reading.{read_last}
+use Rattle.sp_core.proofs.Preparing.{some_edition}
 use Rattle.sp_core.proofs.PrunedLedgers.{applying_read}
 use Rattle.sp_core.proofs.ledger.Ledger.applying.Goals as goal
 

@@ -6,8 +6,8 @@ use Rattle.sp_model.specs.Problem.{vector_of}
 use Rattle.sp_value.specs.declared.editions.Member.{Member}
 use Rattle.sp_value.specs.Tasks.{TaskParts, task_of}
 use Rattle.sp_value.specs.Editions.{EditionParts, IsEdition, IsMemberOf}
-use Rattle.sp_core.specs.Accounts.{AreWorths}
-use Rattle.sp_core.proofs.Preparing.{up_same}
+use Rattle.sp_ledger.specs.Accounts.{AreWorths}
+use Rattle.sp_ledger.proofs.Reading.{up_same}
 use Rattle.sp_core.proofs.ledger.Ledger.due.Goals as goal
 
 pub shared_edition-requires : goal.shared_edition-requires

@@ -9,7 +9,8 @@ use Rattle.sp_value.specs.Tasks.{TaskParts}
 use Rattle.sp_value.specs.Editions.{IsEdition}
 use Rattle.sp_core.specs.Ledgers.{contents}
 use Rattle.sp_drops.specs.Drops.{left_by}
-use Rattle.sp_core.proofs.Preparing.{read_last, some_edition}
+use Rattle.sp_ledger.proofs.Reading.{read_last}
+use Rattle.sp_core.proofs.Preparing.{some_edition}
 use Rattle.sp_core.proofs.PrunedLedgers.{left_edition}
 use Rattle.sp_core.proofs.ledger.Ledger.left.Goals as goal
 

@@ -14,9 +14,9 @@ use Rattle.sp_value.specs.declared.tasks.Options.{Options}
 use Rattle.sp_value.specs.Tasks.{TaskParts, IsTask, task_of}
 use Rattle.sp_value.specs.Events.{events_of}
 use Rattle.sp_value.specs.Editions.{EditionParts}
-use Rattle.sp_core.specs.Accounts.{AreWorths}
+use Rattle.sp_ledger.specs.Accounts.{AreWorths}
 use Rattle.sp_core.specs.Ledgers.{Contents}
-use Rattle.sp_core.specs.Opening.{first_edition, first_member}
+use Rattle.sp_ledger.specs.Opening.{first_edition, first_member}
 use Rattle.sp_core.proofs.Leaf.{first_ledger}
 use Rattle.sp_core.proofs.ledger.Ledger.opened.Goals as goal
 

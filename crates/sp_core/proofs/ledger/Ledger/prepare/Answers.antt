@@ -7,12 +7,14 @@ use Rattle.std.specs.Arc.{arc_value}
 use Rattle.sp_value.specs.declared.editions.Member.{Member}
 use Rattle.sp_value.specs.Tasks.{TaskParts}
 use Rattle.sp_value.specs.Editions.{IsMemberOf}
-use Rattle.sp_core.specs.declared.flags.Choice.TheVariants.{Neither, New, Old}
-use Rattle.sp_core.specs.Ledgers.{Contents, contents, parts_in, IsLedger}
+use Rattle.sp_ledger.specs.declared.flags.Choice.TheVariants.{Neither, New, Old}
+use Rattle.sp_core.specs.Books.{state_of}
+use Rattle.sp_core.specs.Ledgers.{Contents, contents, account_in, parts_in, IsLedger}
 use Rattle.sp_core.specs.Settling.{IsOurs}
 use Rattle.sp_core.specs.Plans.{choice_for, new_member, IsEntry, IsGreatestAtBelief}
-use Rattle.sp_core.proofs.Ours.{own_belief}
-use Rattle.sp_core.proofs.Preparing.{chosen_is, new_known, some_edition, read_last, latest_task, greatest_is}
+use Rattle.sp_ledger.proofs.Ours.{own_belief}
+use Rattle.sp_ledger.proofs.Reading.{chosen_is, read_last}
+use Rattle.sp_core.proofs.Preparing.{new_known, some_edition, latest_task, greatest_is}
 use Rattle.sp_core.proofs.SettledLedgers.{different_new, different_old}
 use Rattle.sp_core.proofs.ledger.Ledger.prepare.Goals as goal
 
@@ -28,7 +30,7 @@ returns-in-Neither-clause-plan c =
     let fits_latest : FitsSigned w128 c.index-2.result.now = search rules in
     let fits_grown : FitsSigned w128 c.index-3.result.now = search rules in
     let fits_worth : FitsSigned w128 c.in_ok-worth.worth = search rules in
-    let chosen : choice_for now d ≡ Neither = chosen_is now led d is ours c.belief-belief.result c.belief-belief.ensures _ _ _ _ _ _ _ c.index.ensures c.index-2.ensures c.index-3.ensures
+    let chosen : choice_for now d ≡ Neither = chosen_is now.task (state_of (parts_in now)) (account_in now) led.running.replayed.account d.belief (own_belief now.task now.editions led.numbered d is ours) d.vector c.belief-belief.result c.belief-belief.ensures _ _ _ _ _ _ _ c.index.ensures c.index-2.ensures c.index-3.ensures
     (to_z-of_z w128 _ fits_latest) (to_z-of_z w128 _ fits_grown) (to_z-of_z w128 _ fits_worth) _ _ _ (c.deref.ensures ∙ c.task.ensures) c.belief.ensures c.vector.ensures.value c.in_ok-worth.ensures _ Neither c.choose-choice.ensures c.in-Neither.is in
     chosen
 
@@ -72,7 +74,7 @@ greatest_at-requires c =
     let long : vec_len items ≡ length items.items = search (rules, places) in
     let last = read_last arc_value items.items c.len.result c.index-latest.result.now e (c.len.ensures ∙ long) (some_edition now led) c.index-latest.ensures c.deref-in-Old.ensures in
     subst (λ (t : TaskParts). c.belief-in-Old.result < t.options.beliefs) (sym (latest_task now led e last))
-    (subst (λ (n : ℕ). n < now.task.options.beliefs) (sym c.belief-in-Old.ensures) (own_belief now led.numbered d is ours))
+    (subst (λ (n : ℕ). n < now.task.options.beliefs) (sym c.belief-in-Old.ensures) (own_belief now.task now.editions led.numbered d is ours))
 
 pub due-requires-in-Old-clause-member : goal.due-requires-in-Old-clause-member
 due-requires-in-Old-clause-member c =
@@ -105,7 +107,7 @@ due-requires-in-Old-clause-different c =
     let fits_latest : FitsSigned w128 c.index-2.result.now = search rules in
     let fits_grown : FitsSigned w128 c.index-3.result.now = search rules in
     let fits_worth : FitsSigned w128 c.in_ok-worth.worth = search rules in
-    let chosen : choice_for now d ≡ Old = chosen_is now led d is ours c.belief-belief.result c.belief-belief.ensures _ _ _ _ _ _ _ c.index.ensures c.index-2.ensures c.index-3.ensures
+    let chosen : choice_for now d ≡ Old = chosen_is now.task (state_of (parts_in now)) (account_in now) led.running.replayed.account d.belief (own_belief now.task now.editions led.numbered d is ours) d.vector c.belief-belief.result c.belief-belief.ensures _ _ _ _ _ _ _ c.index.ensures c.index-2.ensures c.index-3.ensures
     (to_z-of_z w128 _ fits_latest) (to_z-of_z w128 _ fits_grown) (to_z-of_z w128 _ fits_worth) _ _ _ (c.deref.ensures ∙ c.task.ensures) c.belief.ensures c.vector.ensures.value c.in_ok-worth.ensures _ Old c.choose-choice.ensures c.in-Old.is in
     let greatest = greatest_is now led e last d.belief c.belief-in-Old.result c.in_ok-member-in-Old.member c.belief-in-Old.ensures c.in_ok-member-in-Old.ensures.greatest in
     different_old now led going d is ours chosen c.in_ok-member-in-Old.member greatest
@@ -122,7 +124,7 @@ returns-in_ok-next-in-New-clause-plan c =
     let fits_latest : FitsSigned w128 c.index-2.result.now = search rules in
     let fits_grown : FitsSigned w128 c.index-3.result.now = search rules in
     let fits_worth : FitsSigned w128 c.in_ok-worth.worth = search rules in
-    let chosen : choice_for now d ≡ New = chosen_is now led d is ours c.belief-belief.result c.belief-belief.ensures _ _ _ _ _ _ _ c.index.ensures c.index-2.ensures c.index-3.ensures
+    let chosen : choice_for now d ≡ New = chosen_is now.task (state_of (parts_in now)) (account_in now) led.running.replayed.account d.belief (own_belief now.task now.editions led.numbered d is ours) d.vector c.belief-belief.result c.belief-belief.ensures _ _ _ _ _ _ _ c.index.ensures c.index-2.ensures c.index-3.ensures
     (to_z-of_z w128 _ fits_latest) (to_z-of_z w128 _ fits_grown) (to_z-of_z w128 _ fits_worth) _ _ _ (c.deref.ensures ∙ c.task.ensures) c.belief.ensures c.vector.ensures.value c.in_ok-worth.ensures _ New c.choose-choice.ensures c.in-New.is in
     let then = contents c.due.new.self in
     let it_is : (record { id = now.records; action = c.action.result; vector = c.vector-in-New.result.now }) ≡ new_member then d = (λ i. let r : Member = record { id = sym (ap (λ (x : Contents). x.records) c.due.ensures.same) i; action = c.action.ensures i; vector = c.vector-in-New.ensures.value i } in r) in
@@ -144,7 +146,7 @@ returns-in_ok-next-in-Old-clause-plan c =
     let fits_latest : FitsSigned w128 c.index-2.result.now = search rules in
     let fits_grown : FitsSigned w128 c.index-3.result.now = search rules in
     let fits_worth : FitsSigned w128 c.in_ok-worth.worth = search rules in
-    let chosen : choice_for now d ≡ Old = chosen_is now led d is ours c.belief-belief.result c.belief-belief.ensures _ _ _ _ _ _ _ c.index.ensures c.index-2.ensures c.index-3.ensures
+    let chosen : choice_for now d ≡ Old = chosen_is now.task (state_of (parts_in now)) (account_in now) led.running.replayed.account d.belief (own_belief now.task now.editions led.numbered d is ours) d.vector c.belief-belief.result c.belief-belief.ensures _ _ _ _ _ _ _ c.index.ensures c.index-2.ensures c.index-3.ensures
     (to_z-of_z w128 _ fits_latest) (to_z-of_z w128 _ fits_grown) (to_z-of_z w128 _ fits_worth) _ _ _ (c.deref.ensures ∙ c.task.ensures) c.belief.ensures c.vector.ensures.value c.in_ok-worth.ensures _ Old c.choose-choice.ensures c.in-Old.is in
     let greatest = greatest_is now led e last d.belief c.belief-in-Old.result c.in_ok-member-in-Old.member c.belief-in-Old.ensures c.in_ok-member-in-Old.ensures.greatest in (
       ap (λ (x : Contents). choice_for x d) c.due-in-Old.ensures.same ∙ chosen,

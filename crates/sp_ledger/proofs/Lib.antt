@@ -1,0 +1,13 @@
+pub mod Values
+pub mod Accounting
+pub mod Backups
+pub mod Replaying
+pub mod Entering
+pub mod Distinct
+pub mod Changes
+pub mod Numbers
+pub mod Ours
+pub mod Reading
+pub mod Lists
+pub mod Leaf
+pub mod Opened
