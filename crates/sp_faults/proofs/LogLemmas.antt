@@ -118,14 +118,14 @@ pub logs_are_wrong_once : LogsAreWrongOnce
 logs_are_wrong_once m editions xs i j c d w v = once m editions (opening_session m) xs i j c d (goes m editions xs i c w) (goes m editions xs j d v)
 
 -- ---- no log is neither legal nor wrong
-first_seen : (m : Model) (x : Entry) (xs : List Entry) → AreSeen m (x ∷ xs) → AreSeen m (x ∷ [])
+pub first_seen : (m : Model) (x : Entry) (xs : List Entry) → AreSeen m (x ∷ xs) → AreSeen m (x ∷ [])
 first_seen m (told e) xs h = tt
 first_seen m (act e id action) xs h = tt
 first_seen m (observe o) xs h = (h.0, tt)
 first_seen m (unseen o) xs h = (h.0, tt)
 first_seen m (closing e id action) xs h = tt
 
-rest_seen : (m : Model) (x : Entry) (xs : List Entry) → AreSeen m (x ∷ xs) → AreSeen m xs
+pub rest_seen : (m : Model) (x : Entry) (xs : List Entry) → AreSeen m (x ∷ xs) → AreSeen m xs
 rest_seen m (told e) xs h = h
 rest_seen m (act e id action) xs h = h
 rest_seen m (observe o) xs h = h.1
@@ -182,14 +182,14 @@ editions_back m (x ∷ xs) (y ∷ ys) (here, rest) = (members_back m x y here, e
 editions_back m [] (y ∷ ys) h = absurd h
 editions_back m (x ∷ xs) [] h = absurd h
 
-at_agrees : (m : Model) (xs ys : List Edition) → AllAgree m xs ys → (e : ℕ) → EditionsAgree m (get_or xs e []) (get_or ys e [])
+pub at_agrees : (m : Model) (xs ys : List Edition) → AllAgree m xs ys → (e : ℕ) → EditionsAgree m (get_or xs e []) (get_or ys e [])
 at_agrees m [] [] h e = tt
 at_agrees m (x ∷ xs) (y ∷ ys) (here, rest) zero = here
 at_agrees m (x ∷ xs) (y ∷ ys) (here, rest) (suc e) = at_agrees m xs ys rest e
 at_agrees m [] (y ∷ ys) h e = absurd h
 at_agrees m (x ∷ xs) [] h e = absurd h
 
-length-agrees : (m : Model) (xs ys : List Edition) → AllAgree m xs ys → length xs ≡ length ys
+pub length-agrees : (m : Model) (xs ys : List Edition) → AllAgree m xs ys → length xs ≡ length ys
 length-agrees m [] [] h = refl
 length-agrees m (x ∷ xs) (y ∷ ys) (here, rest) = ap suc (length-agrees m xs ys rest)
 length-agrees m [] (y ∷ ys) h = absurd h

@@ -76,13 +76,13 @@ pub legal_runs_are_sound : LegalRunsAreSound
 legal_runs_are_sound t lawful some es (history, over) = (run_is_sound t lawful some es history, recorded.all_close t lawful some (opening t) es (sound_opening t) (tidy_opening t) history)
 
 -- ---- no run is neither legal nor wrong
-first_sampled : (t : Task) (x : Event) (xs : List Event) → AreSampled t (x ∷ xs) → AreSampled t (x ∷ [])
+pub first_sampled : (t : Task) (x : Event) (xs : List Event) → AreSampled t (x ∷ xs) → AreSampled t (x ∷ [])
 first_sampled t (settle k e a links) xs h = (h.0, tt)
 first_sampled t publish xs h = tt
 first_sampled t (prune pairs) xs h = tt
 first_sampled t end xs h = tt
 
-rest_sampled : (t : Task) (x : Event) (xs : List Event) → AreSampled t (x ∷ xs) → AreSampled t xs
+pub rest_sampled : (t : Task) (x : Event) (xs : List Event) → AreSampled t (x ∷ xs) → AreSampled t xs
 rest_sampled t (settle k e a links) xs h = h.1
 rest_sampled t publish xs h = h
 rest_sampled t (prune pairs) xs h = h

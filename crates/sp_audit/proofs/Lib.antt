@@ -1,0 +1,14 @@
+pub mod Items
+pub mod Single
+pub mod Answering
+pub mod Entered
+pub mod Logged
+pub mod Transcripts
+pub mod Following
+pub mod Reading
+pub mod Faults
+pub mod Dropping
+pub mod Pruned
+pub mod WholeRuns
+pub mod Outcomes
+pub mod VerdictLaws

@@ -1,0 +1,12 @@
+pub mod Clauses
+pub mod Seats
+pub mod Entries
+pub mod Logs
+pub mod States
+pub mod Judging
+pub mod RunsJudged
+pub mod Pruning
+pub mod Verdicts
+pub mod ReplayParts
+pub mod Replays
+pub mod Laws

@@ -1,0 +1,5 @@
+pub mod SameRuns
+pub mod SameFiles
+pub mod FormLemmas
+pub mod Migrated
+pub mod Judgements

@@ -1,0 +1,5 @@
+use Rattle.sp_judging.proofs.Migrated.{legal_files_are_sound}
+use Rattle.sp_judging.proofs.laws.legal_files_are_sound.Goals as goal
+
+pub returns : goal.returns
+returns c = legal_files_are_sound

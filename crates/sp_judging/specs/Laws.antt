@@ -1,0 +1,33 @@
+-- The laws of judged plan files, as the functions of this crate state them.
+use Rattle.std.specs.Prelude.{◌≡◌, ℕ, ℤ, List, Some}
+use Rattle.sp_theory.specs.Book.{opening}
+use Rattle.sp_theory.specs.Runs.{replay}
+use Rattle.sp_theory.specs.Laws.{IsSound, AllClose}
+use Rattle.sp_value.specs.Events.{events_of}
+use Rattle.sp_value.specs.Tasks.{task_of}
+use Rattle.sp_filed.specs.declared.error.PlanKind.{PlanKind}
+use Rattle.sp_filed.specs.Files.{IsFault}
+use Rattle.sp_audit.specs.Verdicts.{values_after}
+use Rattle.sp_judging.specs.PlanFiles.{IsLegalFile, IsLegalPlan, IsIllegalPlan, IsMigratedText}
+
+-- of the same bytes one thing holds at most: they are legal, they are a plan file that isn't, or they are at fault
+pub record IsOneOfThree (source : List ℕ) : Type 0 where
+  pub legal_or_not : IsLegalPlan source → (note : List ℕ) → ¬ (IsIllegalPlan source note)
+  pub legal_or_fault : IsLegalPlan source → (at : ℕ) (kind : PlanKind) → ¬ (IsFault source at kind)
+  pub illegal_or_fault : (note : List ℕ) → IsIllegalPlan source note → (at : ℕ) (kind : PlanKind) → ¬ (IsFault source at kind)
+
+abbrev pub LegalFilesAreNotRefused : Type 0
+LegalFilesAreNotRefused = (source : List ℕ) → IsOneOfThree source
+
+-- the vectors of a legal file's run are lower bounds, values at sampled beliefs never fall, and backups are close to the exact ones
+abbrev pub LegalFilesAreSound : Type 0
+LegalFilesAreSound = (source : List ℕ) (p : IsLegalPlan source)
+    → IsSound (task_of p.task) (replay (task_of p.task) (opening (task_of p.task)) (events_of p.events)) × AllClose (task_of p.task) (opening (task_of p.task)) (events_of p.events)
+
+-- what is migrated is a legal file of the same run and transcript
+abbrev pub MigratedFilesAreLegal : Type 0
+MigratedFilesAreLegal = (source text : List ℕ) (m : IsMigratedText source text) → IsLegalFile text m.plan.task m.plan.events (Some (values_after m.plan.task (events_of m.plan.events))) m.plan.transcript
+
+-- a file that has values is migrated to itself
+abbrev pub FilesWithValuesStay : Type 0
+FilesWithValuesStay = (source text : List ℕ) (m : IsMigratedText source text) (values : List ℤ) → m.plan.values ≡ Some values → text ≡ source

@@ -1,0 +1,25 @@
+//! Laws of judged plan files. Each function does nothing: its contract is the law.
+
+ghost use Rattle.sp_judging.specs.Laws.{LegalFilesAreNotRefused, LegalFilesAreSound, MigratedFilesAreLegal, FilesWithValuesStay};
+
+/// Of the same bytes one thing holds at most: they are a legal plan file with true values, they are a plan file that isn't, or they are
+/// at fault.
+pub fn legal_files_are_not_refused()
+    ensures { LegalFilesAreNotRefused }
+{}
+
+/// Whoever wrote a legal file: each vector of its run is at every state at most the exact return of the plan that its links spell, no
+/// value at a sampled belief falls, and each recorded backup is close to the exact one.
+pub fn legal_files_are_sound()
+    ensures { LegalFilesAreSound }
+{}
+
+/// What is migrated is a legal file of the same run and transcript.
+pub fn migrated_files_are_legal()
+    ensures { MigratedFilesAreLegal }
+{}
+
+/// A legal file of version 2 is migrated to itself.
+pub fn files_with_values_stay()
+    ensures { FilesWithValuesStay }
+{}
