@@ -1,1 +1,5 @@
 pub mod Logs
+pub mod Sessions
+pub mod Seats
+pub mod Answering
+pub mod Laws

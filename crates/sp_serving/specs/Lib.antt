@@ -1,0 +1,5 @@
+pub mod Replies
+pub mod Laws
+pub mod Progress
+pub mod Serving
+pub mod Kept
