@@ -1,0 +1,5 @@
+pub mod Prefixes
+pub mod Adding
+pub mod Snaps
+pub mod LogLemmas
+pub mod PublishedLemmas

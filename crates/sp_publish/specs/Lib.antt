@@ -1,0 +1,5 @@
+pub mod Published
+pub mod Logs
+pub mod Rules
+pub mod Snapshot
+pub mod Laws
