@@ -1,5 +1,5 @@
 -- A plan file has no fault.
-use Rattle.std.proofs.Common.{◌≡◌, ℕ, List, [], ◌∷◌, ◌++◌, length, map, get_or, Bool, true, false, refl, ap, sym, ◌∙◌, arith, codes, subst, inl, inr}
+use Rattle.std.proofs.Common.{◌≡◌, ℕ, List, ◌∷◌, ◌++◌, length, map, get_or, Bool, true, false, refl, ap, sym, ◌∙◌, arith, codes, subst, inl, inr}
 use Rattle.std.specs.Prelude.{is_some}
 use Rattle.sp_theory.specs.Points.{count_of}
 use Rattle.sp_theory.specs.Samples as theory
@@ -22,7 +22,7 @@ use Rattle.sp_filed.specs.Laws.{PlanFilesAreNotAtFault}
 use Rattle.sp_filed.proofs.ModelLaws.{no_stop_behind_model, no_unseen_behind_model}
 
 -- ---- the head
-version_told : (b d : Bool) (us vs : List ℕ) → version_line b ++ (10 ∷ us) ≡ version_line d ++ (10 ∷ vs) → us ≡ vs
+pub version_told : (b d : Bool) (us vs : List ℕ) → version_line b ++ (10 ∷ us) ≡ version_line d ++ (10 ∷ vs) → us ≡ vs
 version_told true true us vs e = behind_same (codes "perseus-plan 2\n") us vs e
 version_told false false us vs e = behind_same (codes "perseus-plan 1\n") us vs e
 version_told true false us vs e = absurd (let other : 50 ≡ 49 = ap (λ l. get_or l 13 0) e in omega (arith, other))
@@ -32,7 +32,7 @@ head_is : (b : Bool) (us : List ℕ) → head_text b ++ us ≡ version_line b ++
 head_is true us = refl
 head_is false us = refl
 
-no_stop_at_head : (b : Bool) (us source : List ℕ) (left : ℕ) → source ≡ head_text b ++ us → StopsAtHead source left → ⊥
+pub no_stop_at_head : (b : Bool) (us source : List ℕ) (left : ℕ) → source ≡ head_text b ++ us → StopsAtHead source left → ⊥
 no_stop_at_head b us source left e (inl (none, bytes)) = none b (codes "model\n" ++ us) (e ∙ head_is b us)
 no_stop_at_head b us source left e (inr (d, rest, is, none, bytes)) = none us (sym (version_told b d (codes "model\n" ++ us) rest (sym (head_is b us) ∙ sym e ∙ is)))
 

@@ -11,3 +11,6 @@ pub mod TailLaws
 pub mod MoveLaws
 pub mod ModelLaws
 pub mod FaultLaws
+pub mod MoveStops
+pub mod OneFault
+pub mod OneRun

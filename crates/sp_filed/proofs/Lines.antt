@@ -1,11 +1,11 @@
 -- What a line is told to be.
-use Rattle.std.proofs.Common.{◌≡◌, ◌≢◌, ℕ, ◌<◌, ◌≤◌, List, [], ◌∷◌, ◌++◌, length, Bool, refl, ap, sym, ◌∙◌, append_assoc, arith, codes, subst}
+use Rattle.std.proofs.Common.{◌≡◌, ℕ, List, [], ◌∷◌, ◌++◌, Bool, refl, sym, ◌∙◌, append_assoc, arith, codes}
 use Rattle.std.specs.List.{AllByRecursion}
 use Rattle.std.specs.Fmt.{decimal}
 use Rattle.std.proofs.lemmas.List.{append-nil}
 use Rattle.sp_value.specs.declared.tasks.Explore.{Explore}
 use Rattle.sp_value.specs.declared.tasks.Options.{Options}
-use Rattle.sp_lines.specs.Lines.{spaced, IsSmall, BeginsPair, BeginsNoDigit}
+use Rattle.sp_lines.specs.Lines.{spaced, IsSmall, BeginsPair}
 use Rattle.sp_lines.proofs.Spaces.{pair_told, number_after, spaced_ends}
 use Rattle.sp_filed.specs.Sizes.{BeginsThree}
 use Rattle.sp_planfile.specs.PlanText.{options_line, explore_word, prune_word}

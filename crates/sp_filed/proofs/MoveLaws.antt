@@ -45,7 +45,7 @@ next_sym m (Some u) None h = absurd h
 
 -- ---- the moves of lists
 module _ (p : Parts) (d : theory.Sample) where
-  same_moves : (xs rs : List Sample) (tail : List (ℕ × ℕ)) (j : ℕ) → j < length rs → map move_of xs ≡ map move_of rs ++ tail
+  pub same_moves : (xs rs : List Sample) (tail : List (ℕ × ℕ)) (j : ℕ) → j < length rs → map move_of xs ≡ map move_of rs ++ tail
       → ((get_or (map (sample_of p) xs) j d).action ≡ (get_or (map (sample_of p) rs) j d).action) × ((get_or (map (sample_of p) xs) j d).observation ≡ (get_or (map (sample_of p) rs) j d).observation)
   same_moves xs [] tail j less e = absurd (omega (arith, less))
   same_moves [] (r ∷ rs) tail j less e = cc
@@ -99,6 +99,24 @@ module _ (m : problems.Model) (depth : ℕ) (xs rs : List theory.Sample) (a : th
       by_test true = (b.first (omega (arith, count))).weights
       by_test false = λ st at. sym (agree_at k (omega (arith, count)) st at)
 
+-- ---- where more samples are there, the next weights are seen
+module _ (p : Parts) (depth : ℕ) where
+  pub seen_further : (xs : List Sample) → theory.AreSamplesOf (problem p) depth (map (sample_of p) xs) → (ys : List Sample) (k : ℕ) (move : ℕ × ℕ) (more : List (ℕ × ℕ)) (parent : Sample) → length ys ≡ suc k → length ys < length xs → theory.AreSamplesOf (problem p) depth (map (sample_of p) ys)
+      → moves_of xs ≡ moves_of ys ++ (move ∷ more) → slice_get ys (parent_number depth k) ≡ Some parent → next_weights (problem p) (sample_of p parent).weights move.0 (point_of (problem p).sight_sizes move.1) ≡ None → ⊥
+  seen_further [] a ys k move more parent sizes less b moves stands unseen = omega (arith, less)
+  seen_further (x ∷ xs) a [] k move more parent sizes less b moves stands unseen = omega (arith, sizes)
+  seen_further (x ∷ xs) a (y ∷ ys) k move more parent sizes less b moves stands unseen =
+      let few : length ys ≡ k = omega (arith, sizes) in
+      let at = next_move p (theory.first_sample (problem p)) xs ys move more moves in
+      let is : sample_of p parent ≡ theory.sample_at (problem p) (map (sample_of p) (y ∷ ys)) (parent_number depth k) =
+      sym (get_or-map (sample_of p) (y ∷ ys) (parent_number depth k) parent _ (slice_get_within (y ∷ ys) (parent_number depth k) parent stands) ∙ ap (sample_of p) (get_or_from_slice_get (y ∷ ys) (parent_number depth k) parent parent stands)) in
+      seen_next (problem p) depth (map (sample_of p) (x ∷ xs)) (map (sample_of p) (y ∷ ys)) a b (omega (arith, less, length-map xs (sample_of p), length-map ys (sample_of p)))
+      (λ j short. same_moves p (theory.first_sample (problem p)) xs ys (move ∷ more) j (omega (arith, short, length-map ys (sample_of p))) moves)
+      k (omega (arith, few, length-map ys (sample_of p))) (omega (arith, few, less, length-map xs (sample_of p))) move.0 move.1
+      (subst (λ n. (get_or (map (sample_of p) xs) n (theory.first_sample (problem p))).action ≡ move.0) few at.0)
+      (subst (λ n. (get_or (map (sample_of p) xs) n (theory.first_sample (problem p))).observation ≡ move.1) few at.1)
+      (subst (λ (z : theory.Sample). next_weights (problem p) z.weights move.0 (point_of (problem p).sight_sizes move.1) ≡ None) is unseen)
+
 -- ---- the lines of the beliefs
 module _ (p : Parts) (s : Sizes) (depth : ℕ) (xs : List Sample) (good : AllByRecursion (IsMoveOf s) (moves_of xs)) (count : length xs ≡ s.beliefs) (sampled : theory.AreSamplesOf (problem p) depth (map (sample_of p) xs)) where
   found : (us text : List ℕ) (left : ℕ) → lines_of belief_line (moves_of xs) ++ us ≡ text → (before : TellsSome p s depth text left)
@@ -116,30 +134,10 @@ module _ (p : Parts) (s : Sizes) (depth : ℕ) (xs : List Sample) (good : AllByR
       let next = found us text left e stops.before in
       stops.none (next.0, lines_of belief_line next.1 ++ us, next.2, next.4)
 
-  no_unseen : (ys : List Sample) (k : ℕ) (move : ℕ × ℕ) (more : List (ℕ × ℕ)) (parent : Sample) → length ys ≡ suc k → length ys < length xs → theory.AreSamplesOf (problem p) depth (map (sample_of p) ys)
-      → moves_of xs ≡ moves_of ys ++ (move ∷ more) → slice_get ys (parent_number depth k) ≡ Some parent → next_weights (problem p) (sample_of p parent).weights move.0 (point_of (problem p).sight_sizes move.1) ≡ None → ⊥
-  no_unseen = by_lists xs sampled
-    where
-      by_lists : (xs : List Sample) → theory.AreSamplesOf (problem p) depth (map (sample_of p) xs) → (ys : List Sample) (k : ℕ) (move : ℕ × ℕ) (more : List (ℕ × ℕ)) (parent : Sample) → length ys ≡ suc k → length ys < length xs → theory.AreSamplesOf (problem p) depth (map (sample_of p) ys)
-          → moves_of xs ≡ moves_of ys ++ (move ∷ more) → slice_get ys (parent_number depth k) ≡ Some parent → next_weights (problem p) (sample_of p parent).weights move.0 (point_of (problem p).sight_sizes move.1) ≡ None → ⊥
-      by_lists [] a ys k move more parent sizes less b moves stands unseen = omega (arith, less)
-      by_lists (x ∷ xs) a [] k move more parent sizes less b moves stands unseen = omega (arith, sizes)
-      by_lists (x ∷ xs) a (y ∷ ys) k move more parent sizes less b moves stands unseen =
-          let few : length ys ≡ k = omega (arith, sizes) in
-          let at = next_move p (theory.first_sample (problem p)) xs ys move more moves in
-          let is : sample_of p parent ≡ theory.sample_at (problem p) (map (sample_of p) (y ∷ ys)) (parent_number depth k) =
-          sym (get_or-map (sample_of p) (y ∷ ys) (parent_number depth k) parent _ (slice_get_within (y ∷ ys) (parent_number depth k) parent stands) ∙ ap (sample_of p) (get_or_from_slice_get (y ∷ ys) (parent_number depth k) parent parent stands)) in
-          seen_next (problem p) depth (map (sample_of p) (x ∷ xs)) (map (sample_of p) (y ∷ ys)) a b (omega (arith, less, length-map xs (sample_of p), length-map ys (sample_of p)))
-          (λ j short. same_moves p (theory.first_sample (problem p)) xs ys (move ∷ more) j (omega (arith, short, length-map ys (sample_of p))) moves)
-          k (omega (arith, few, length-map ys (sample_of p))) (omega (arith, few, less, length-map xs (sample_of p))) move.0 move.1
-          (subst (λ n. (get_or (map (sample_of p) xs) n (theory.first_sample (problem p))).action ≡ move.0) few at.0)
-          (subst (λ n. (get_or (map (sample_of p) xs) n (theory.first_sample (problem p))).observation ≡ move.1) few at.1)
-          (subst (λ (z : theory.Sample). next_weights (problem p) z.weights move.0 (point_of (problem p).sight_sizes move.1) ≡ None) is unseen)
-
   pub no_unseen_move : (us text : List ℕ) (left : ℕ) → lines_of belief_line (moves_of xs) ++ us ≡ text → IsUnseenMove p s depth text left → ⊥
   no_unseen_move us text left e stops =
       let next = found us text left e stops.before in
       let cut = cut_at 10 (belief_line next.0) (belief_line stops.move) (lines_of belief_line next.1 ++ us) stops.more (line_of_move_lacks s next.0 next.2) (line_of_move_lacks s stops.move stops.good) (sym next.4 ∙ stops.is) in
       let same : next.0 ≡ stops.move = line_of_move_tells s next.0 stops.move next.2 stops.good cut.0 in
-      no_unseen stops.before.read stops.k stops.move next.1 stops.parent stops.count (omega (arith, stops.before.fewer, count)) stops.before.sampled.of_model
+      seen_further p depth xs sampled stops.before.read stops.k stops.move next.1 stops.parent stops.count (omega (arith, stops.before.fewer, count)) stops.before.sampled.of_model
       (next.3 ∙ ap (λ z. moves_of stops.before.read ++ (z ∷ next.1)) same) stops.stands stops.unseen

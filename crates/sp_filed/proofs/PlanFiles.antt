@@ -1,6 +1,5 @@
 -- A plan file from its parts, and its faults.
-use Rattle.std.proofs.Common.{◌≡◌, ℕ, ℤ, List, [], ◌∷◌, ◌++◌, length, Bool, Option, Some, None, refl, ap, sym, ◌∙◌, codes, subst, inl, inr}
-use Rattle.std.specs.Prelude.{is_some}
+use Rattle.std.proofs.Common.{◌≡◌, ℕ, ℤ, List, [], ◌++◌, length, Bool, Option, Some, None, ap, sym, ◌∙◌, codes, subst, inr}
 use Rattle.sp_theory.specs.Points.{count_of}
 use Rattle.sp_model.specs.declared.parts.Parts.{Parts}
 use Rattle.sp_model.specs.Problem.{sizes_of}

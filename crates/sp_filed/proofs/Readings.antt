@@ -1,5 +1,5 @@
 -- What is read behind the model.
-use Rattle.std.proofs.Common.{◌≡◌, ◌≢◌, ℕ, suc, ◌<◌, ◌≤◌, ℤ, List, [], ◌∷◌, ◌++◌, length, map, Bool, true, false, Option, Some, None, refl, ap, sym, ◌∙◌, append_assoc, arith, codes}
+use Rattle.std.proofs.Common.{◌≡◌, ℕ, suc, ◌<◌, ℤ, List, [], ◌∷◌, ◌++◌, length, Bool, true, false, Option, Some, None, refl, ap, sym, ◌∙◌, arith, codes}
 use Rattle.std.specs.Prelude.{is_some}
 use Rattle.std.specs.List.{AllByRecursion}
 use Rattle.std.proofs.lemmas.List.{length-map}
@@ -17,14 +17,13 @@ use Rattle.sp_value.specs.declared.tasks.Options.{Options}
 use Rattle.sp_value.specs.Events.{events_of}
 use Rattle.sp_session.specs.declared.logs.SessionLog.{SessionLog}
 use Rattle.sp_session.specs.Logs.{logs_of}
-use Rattle.sp_lines.specs.Lines.{spaced, lines_of, Lacks, IsSmall}
+use Rattle.sp_lines.specs.Lines.{spaced, lines_of, Lacks}
 use Rattle.sp_planfile.specs.Contents.{moves_of, move_of}
-use Rattle.sp_planfile.specs.PlanText.{options_line, explore_word, prune_word, belief_line, events_section, values_text, logs_section}
+use Rattle.sp_planfile.specs.PlanText.{options_line, explore_word, prune_word, belief_line, events_section, values_text}
 use Rattle.sp_planfile.specs.Form.{AreInRange, AreValues, IsMove, IsEventInForm, IsEntryInForm, IsLogInForm, edition_count}
 use Rattle.sp_planfile.proofs.Sections.{lacks-append}
 use Rattle.sp_planfile.proofs.Unique.{spaced_lacks, letters}
 use Rattle.sp_filed.specs.declared.sizes.Sizes.{Sizes}
-use Rattle.sp_filed.specs.Sizes.{IsMoveOf, IsEventOf, IsEntryOf}
 use Rattle.sp_filed.specs.Stops.{IsLogOf}
 use Rattle.sp_filed.specs.Tails.{AreVersionValues, IsReadBehindOptions, IsReadBehindModel, sizes_for}
 

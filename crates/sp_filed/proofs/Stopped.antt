@@ -1,14 +1,13 @@
 -- Why a section stops.
-use Rattle.std.proofs.Common.{◌≡◌, ◌≢◌, ℕ, ◌<◌, List, [], ◌∷◌, ◌++◌, length, Bool, true, false, refl, ap, sym, ◌∙◌, arith, Result, Err, nat_lt, ◌&&◌, subst, Option, Some, None}
+use Rattle.std.proofs.Common.{◌≡◌, ◌≢◌, ℕ, ◌<◌, List, [], ◌∷◌, ◌++◌, length, Bool, true, false, refl, sym, Result, Err, nat_lt, ◌&&◌, subst, Option, Some, None}
 use Rattle.std.specs.Prelude.{IsTrue, MatchOption}
 use Rattle.std.specs.List.{AllByRecursion}
 use Rattle.std.proofs.lemmas.Bool.{false≢true}
 use Rattle.sp_theory.specs.Book.{Event}
-use Rattle.sp_theory.specs.Logs.{Entry}
-use Rattle.sp_lines.specs.Lines.{spaced, lines_of, Lacks, IsSmall, IsSmallPair, BeginsLine, BeginsLineOf, EndsEarly}
+use Rattle.sp_lines.specs.Lines.{spaced, lines_of, Lacks, IsSmall, BeginsLine, EndsEarly}
 use Rattle.sp_lines.proofs.Lists.{no_line, other_line}
 use Rattle.sp_planfile.specs.RunText.{event_line}
-use Rattle.sp_planfile.specs.PlanText.{count_line, entry_line}
+use Rattle.sp_planfile.specs.PlanText.{count_line}
 use Rattle.sp_planfile.proofs.Unique.{spaced_lacks, line_lacks}
 use Rattle.sp_planfile.proofs.Sections.{lacks-append}
 use Rattle.sp_filed.specs.declared.sizes.Sizes.{Sizes}

@@ -1,5 +1,5 @@
 -- Plan files, and where they are at fault.
-use Rattle.std.specs.Prelude.{◌≡◌, ◌≢◌, ℕ, ◌-◌, ℤ, ◌⊎◌, Bool, true, Option, List, [], ◌∷◌, ◌++◌, length, codes}
+use Rattle.std.specs.Prelude.{◌≡◌, ◌≢◌, ℕ, ◌-◌, ℤ, ◌⊎◌, Bool, true, Option, List, ◌∷◌, ◌++◌, length, codes}
 use Rattle.sp_theory.specs.Points.{count_of}
 use Rattle.sp_model.specs.declared.parts.Parts.{Parts}
 use Rattle.sp_model.specs.Problem.{sizes_of}

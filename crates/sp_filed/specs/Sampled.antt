@@ -1,5 +1,5 @@
 -- The sampled beliefs that a plan file tells by actions and joint observations.
-use Rattle.std.specs.Prelude.{◌≡◌, ℕ, suc, ◌%◌, ◌==◌, ◌<◌, if◌then◌else◌, List, [], ◌∷◌, ◌++◌, map, length, All, Some, slice_get}
+use Rattle.std.specs.Prelude.{◌≡◌, ℕ, suc, ◌%◌, ◌==◌, ◌<◌, if◌then◌else◌, List, ◌∷◌, ◌++◌, map, length, All, Some, slice_get}
 use Rattle.std.specs.List.{AllByRecursion}
 use Rattle.sp_theory.specs.Samples as theory
 use Rattle.sp_model.specs.declared.parts.Parts.{Parts}

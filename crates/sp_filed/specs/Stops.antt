@@ -1,5 +1,5 @@
 -- Where the sections of a plan file stop to be as the form needs: so many bytes are left there.
-use Rattle.std.specs.Prelude.{◌≡◌, ◌≢◌, ℕ, suc, ◌<◌, ◌⊎◌, List, [], ◌∷◌, ◌++◌, map, length, codes, AllPairs, All}
+use Rattle.std.specs.Prelude.{◌≡◌, ◌≢◌, ℕ, ◌<◌, ◌⊎◌, List, [], ◌∷◌, ◌++◌, map, length, codes, AllPairs, All}
 use Rattle.std.specs.List.{AllByRecursion}
 use Rattle.sp_theory.specs.Logs.{Log}
 use Rattle.sp_lines.specs.Lines.{IsSmall, BeginsLineOf, EndsEarly}

@@ -13,7 +13,7 @@ use Rattle.sp_value.specs.Tasks.{TaskParts, IsTask}
 use Rattle.sp_session.specs.declared.logs.SessionLog.{SessionLog}
 use Rattle.sp_lines.specs.Lines.{lines_of, IsSmall, BeginsLineOf}
 use Rattle.sp_planfile.specs.Contents.{contents_of, moves_of}
-use Rattle.sp_planfile.specs.PlanText.{options_line, belief_line, value_line, count_line, events_section, logs_section, values_text, text_from_options}
+use Rattle.sp_planfile.specs.PlanText.{options_line, belief_line, events_section, logs_section, values_text, text_from_options}
 use Rattle.sp_planfile.specs.Form.{AreInRange, AreModelLines, IsInForm, IsValue, edition_count}
 use Rattle.sp_filed.specs.declared.sizes.Sizes.{Sizes}
 use Rattle.sp_filed.specs.Sizes.{IsEventOf}

@@ -18,6 +18,6 @@ mod tasks;
 mod values;
 
 pub use error::{PlanError, PlanKind};
-pub use laws::plan_files_are_not_at_fault;
+pub use laws::{plan_files_are_not_at_fault, plan_files_tell_one_run, sources_are_at_fault_once};
 pub use read::{read_any, read_plan};
 pub use tasks::Filed;

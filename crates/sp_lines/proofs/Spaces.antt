@@ -1,5 +1,5 @@
 -- Numbers behind spaces.
-use Rattle.std.proofs.Common.{◌≡◌, ◌≢◌, ℕ, suc, ◌<◌, List, [], ◌∷◌, ◌++◌, length, refl, ap, sym, ◌∙◌, append_assoc, arith}
+use Rattle.std.proofs.Common.{◌≡◌, ℕ, ◌<◌, List, [], ◌∷◌, ◌++◌, length, ap, sym, ◌∙◌, append_assoc, arith}
 use Rattle.std.specs.List.{AllByRecursion}
 use Rattle.std.specs.Fmt.{decimal}
 use Rattle.sp_lines.specs.Lines.{spaced, spaced_pairs, IsSmall, IsSmallPair, BeginsNoDigit, BeginsSpaced, BeginsPair}
@@ -39,9 +39,6 @@ pub spaced_rest : (text : List ℕ) (n : ℕ) (more : List ℕ) (m : ℕ) (ms : 
 spaced_rest text n more m ms begins small e =
     let tails : decimal n ++ more ≡ decimal m ++ spaced ms = cc (begins.is, e) in
     number_told n m more (spaced ms) begins.small small begins.ends (spaced_ends ms) tails
-
-pub spaced_begins : (text : List ℕ) (m : ℕ) (ms : List ℕ) → IsSmall m → text ≡ spaced (m ∷ ms) → BeginsSpaced text m (spaced ms)
-spaced_begins text m ms small e = record { is = e; small = small; ends = spaced_ends ms }
 
 pub one_read : (text : List ℕ) (n : ℕ) (more : List ℕ) → BeginsSpaced text n more → length more ≡ 0 → text ≡ spaced (n ∷ [])
 one_read text n [] begins e = begins.is
@@ -83,12 +80,6 @@ pairs_begin text some ([], small, e) none = omega (arith, some, ap length e)
 pairs_begin text some ((x, y) ∷ ps, small, e) none = none x y (spaced_pairs ps) (record { is = e; small = small.0; ends = pairs_end ps })
 
 -- two numbers one after the other
-pub pair_read : (text : List ℕ) (x : ℕ) (middle : List ℕ) (y : ℕ) (rest : List ℕ) → BeginsSpaced text x middle → BeginsSpaced middle y rest → BeginsPair text x y rest
-pair_read text x middle y rest a b = record { is = a.is ∙ ap (λ l. 32 ∷ (decimal x ++ l)) b.is; small = (a.small, b.small); ends = b.ends }
-
-pub pair_begins : (text : List ℕ) (x y : ℕ) (rest : List ℕ) → BeginsPair text x y rest → BeginsSpaced text x (32 ∷ (decimal y ++ rest))
-pair_begins text x y rest a = record { is = a.is; small = a.small.0; ends = λ r. omega (arith, r) }
-
 pub pair_continues : (text : List ℕ) (n : ℕ) (middle : List ℕ) (x y : ℕ) (rest : List ℕ) → BeginsSpaced text n middle → BeginsPair text x y rest → BeginsSpaced middle y rest
 pair_continues text n middle x y rest a b =
     let tails : decimal n ++ middle ≡ decimal x ++ (32 ∷ (decimal y ++ rest)) = cc (a.is, b.is) in

@@ -1,39 +1,13 @@
--- The text of a run tells its events.
+-- The line of an event tells the event.
 use Rattle.std.proofs.Common.{◌≡◌, ◌≢◌, ℕ, suc, ◌<◌, ◌≤◌, List, [], ◌∷◌, ◌++◌, length, get_or, refl, ap, sym, ◌∙◌, append_assoc, arith, codes, slice_index}
 use Rattle.std.specs.List.{AllByRecursion}
 use Rattle.std.specs.Fmt.{decimal}
-use Rattle.std.proofs.lemmas.Str.Parse.{digit_at}
-use Rattle.std.proofs.lemmas.Fmt.{decimal_is_IsNumeral, decimal_injective}
+use Rattle.std.proofs.lemmas.Fmt.{decimal_injective}
 use Rattle.sp_theory.specs.Book.{Event, settle, publish, prune, end}
-use Rattle.sp_lines.specs.Lines.{spaced, spaced_pairs, IsSmall, IsSmallPair}
-use Rattle.sp_planfile.specs.RunText.{event_line, event_lines, HasSmall, TextTellsEvents}
-
--- the list hasn't that byte
-abbrev pub Lacks : ℕ → List ℕ → Type 0
-Lacks c xs = AllByRecursion (λ x. x ≢ c) xs
-
--- a list with a mark is cut at the first one
-cut_at : (c : ℕ) (xs ys us vs : List ℕ) → Lacks c xs → Lacks c ys → xs ++ (c ∷ us) ≡ ys ++ (c ∷ vs) → (xs ≡ ys) × (us ≡ vs)
-cut_at c [] [] us vs a b e = (refl, cc)
-cut_at c [] (y ∷ ys) us vs a b e = let same : c ≡ y = cc in absurd (b.0 (sym same))
-cut_at c (x ∷ xs) [] us vs a b e = let same : x ≡ c = cc in absurd (a.0 same)
-cut_at c (x ∷ xs) (y ∷ ys) us vs a b e =
-    let first : x ≡ y = cc in
-    let rest : xs ++ (c ∷ us) ≡ ys ++ (c ∷ vs) = cc in
-    let more = cut_at c xs ys us vs a.1 b.1 rest in
-    (cc (first, more.0), more.1)
-
-lacks-append : (c : ℕ) (xs ys : List ℕ) → Lacks c xs → Lacks c ys → Lacks c (xs ++ ys)
-lacks-append c [] ys a b = b
-lacks-append c (x ∷ xs) ys a b = (a.0, lacks-append c xs ys a.1 b)
-
--- what begins with a digit isn't a space or the end of a line
-from_digits : (c : ℕ) (xs : List ℕ) → c < 48 → ((k : ℕ) → k < length xs → 48 ≤ get_or xs k 0) → Lacks c xs
-from_digits c [] small all = tt
-from_digits c (x ∷ xs) small all = (λ e. let high : 48 ≤ x = all 0 (omega arith) in omega (arith, e, high), from_digits c xs small (λ k h. all (suc k) (omega arith)))
-
-decimal_lacks : (c n : ℕ) → c < 48 → IsSmall n → Lacks c (decimal n)
-decimal_lacks c n low small = from_digits c (decimal n) low (λ k h. (digit_at (decimal n) k ((decimal_is_IsNumeral n small).0.1) h).0)
+use Rattle.sp_lines.specs.Lines.{spaced, spaced_pairs, Lacks, IsSmall, IsSmallPair}
+use Rattle.sp_lines.proofs.Digits.{decimal_lacks}
+use Rattle.sp_planfile.specs.RunText.{event_line, HasSmall}
+use Rattle.sp_planfile.proofs.Sections.{lacks-append}
 
 -- the numbers of a line have no end of a line in them
 pub spaced_lacks : (numbers : List ℕ) → AllByRecursion IsSmall numbers → Lacks 10 (spaced numbers)
@@ -138,22 +112,3 @@ line_tells end (settle k e a links) small small' same = absurd (differs 0 (event
 line_tells end publish small small' same = absurd (differs 0 (event_line end) (event_line publish) same (omega arith))
 line_tells end (prune pairs) small small' same = absurd (differs 0 (event_line end) (event_line (prune pairs)) same (omega arith))
 line_tells end end small small' same = refl
-
--- as many lines before one ending tell their events
-lines_tell : (events others : List Event) (tail : List ℕ) → length events ≡ length others → AllByRecursion HasSmall events → AllByRecursion HasSmall others → event_lines events ++ tail ≡ event_lines others ++ tail → events ≡ others
-lines_tell [] [] tail count a b e = refl
-lines_tell [] (y ∷ ys) tail count a b e = absurd (omega (arith, count))
-lines_tell (x ∷ xs) [] tail count a b e = absurd (omega (arith, count))
-lines_tell (x ∷ xs) (y ∷ ys) tail count a b e =
-    let cut : event_line x ++ (10 ∷ (event_lines xs ++ tail)) ≡ event_line y ++ (10 ∷ (event_lines ys ++ tail)) = sym (append_assoc (event_line x) (10 ∷ event_lines xs) tail) ∙ e ∙ append_assoc (event_line y) (10 ∷ event_lines ys) tail in
-    let one = cut_at 10 (event_line x) (event_line y) (event_lines xs ++ tail) (event_lines ys ++ tail) (line_lacks x a.0) (line_lacks y b.0) cut in
-    let count' : length xs ≡ length ys = omega (arith, count) in
-    let rest = lines_tell xs ys tail count' a.1 b.1 one.1 in
-    let first = line_tells x y a.0 b.0 one.0 in
-    cc (first, rest)
-
-pub text_tells : TextTellsEvents
-text_tells events others a b e =
-    let counts : decimal (length events) ++ (10 ∷ (event_lines events ++ codes "sessions 0\ndone\n")) ≡ decimal (length others) ++ (10 ∷ (event_lines others ++ codes "sessions 0\ndone\n")) = cc e in
-    let one = cut_at 10 (decimal (length events)) (decimal (length others)) (event_lines events ++ codes "sessions 0\ndone\n") (event_lines others ++ codes "sessions 0\ndone\n") (decimal_lacks 10 (length events) (omega arith) a.0) (decimal_lacks 10 (length others) (omega arith) b.0) counts in
-    lines_tell events others (codes "sessions 0\ndone\n") (decimal_injective (length events) (length others) a.0 b.0 one.0) a.1 b.1 one.1

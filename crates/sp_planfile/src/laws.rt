@@ -1,12 +1,6 @@
 //! What holds of the text of a plan. Each function does nothing: its contract is the law.
 
-ghost use Rattle.sp_planfile.specs.RunText.{TextTellsEvents};
 ghost use Rattle.sp_planfile.specs.Laws.{TextTellsContents, NoTextIsBeginning};
-
-/// Different events have different texts, where their numbers and their count are below 2^64.
-pub fn text_tells_events()
-    ensures { TextTellsEvents }
-{}
 
 /// A plan file says one thing: what is in form and differs, in whatever versions, has different texts.
 pub fn text_tells_contents()

@@ -197,6 +197,14 @@ ends words store later out end err gone fault line status r cause e s whole part
     let cause' : Cause (record { words = words; store = store; later = later; out = out; end = end }) status line = rw (e, s) cause in
     answers (record { words = words; store = store; later = later; out = out; end = end }) err gone status line cause' (tells line err gone r whole part risen) (λ done. absurd (not_done fault (sym s ∙ done))) is_later
 
+-- the refusal of a model file's bytes hinders its reading
+pub model_refused : (file source : List ℕ) (store later : Folder) (fault : Fault) → Told (store.content file) source → length source ≤ model_limit → TellsRefusal file source fault → HindersFile file store later fault
+model_refused file source store later Faults.NoMemory told short h = tt
+model_refused file source store later (Faults.Refused line) told short h = (source, told, inr (short, h))
+model_refused file source store later (Faults.ReadFault line) told short h = elim h [ ]
+model_refused file source store later Faults.Usage told short h = elim h [ ]
+model_refused file source store later Faults.WriteFault told short h = elim h [ ]
+
 -- what hinders the model of a file hinders the job that names it
 pub plan_hindered : (p : PlanWords) (store later : Folder) (fault : Fault) → HindersFile p.model store later fault → Hinders (Plan p) store later fault
 plan_hindered p store later Faults.NoMemory h = tt

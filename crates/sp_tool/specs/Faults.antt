@@ -1,9 +1,9 @@
 -- Why a call isn't done, with the status and the line of each.
-use Rattle.std.specs.Prelude.{◌≡◌, ℕ, List, Contains, string_bytes, ⊤}
+use Rattle.std.specs.Prelude.{◌≡◌, ℕ, ◌<◌, List, length, Contains, string_bytes, ⊤}
 use Rattle.sp_outside.specs.Folder.{Folder}
 use Rattle.sp_outside.specs.Counts.{Rose}
 use Rattle.sp_words.specs.declared.job.Job.{Job}
-use Rattle.sp_tool.specs.Lines.{usage_line, no_memory_line, cannot_write_line, cannot_read_line}
+use Rattle.sp_tool.specs.Lines.{usage_line, no_memory_line, cannot_write_line, cannot_read_line, too_long_line}
 use Rattle.sp_tool.specs.Table.{names, Told, Saw, Bars, Refuses, TellsFault}
 use Rattle.sp_tool.specs.declared.status.Status.{Status}
 use Rattle.sp_tool.specs.declared.status.Status.TheVariants as Ended
@@ -33,6 +33,14 @@ TellsRefusal file source (Refused line) = TellsFault file source line.items
 TellsRefusal file source (ReadFault line) = ⊥
 TellsRefusal file source Usage = ⊥
 TellsRefusal file source WriteFault = ⊥
+
+-- why the bytes of a file, of which there may be so many, aren't there
+abbrev pub HindersReading : List ℕ → ℕ → Folder → Folder → Fault → Type 0
+HindersReading file limit store later NoMemory = ⊤
+HindersReading file limit store later (Refused line) = (source : List ℕ) × Told (store.content file) source × (limit < length source) × (line.items ≡ too_long_line file limit)
+HindersReading file limit store later (ReadFault line) = Rose (store.faults file) (later.faults file) × (string_bytes line ≡ cannot_read_line file)
+HindersReading file limit store later Usage = ⊥
+HindersReading file limit store later WriteFault = ⊥
 
 -- why the model of a file isn't there
 abbrev pub HindersFile : List ℕ → Folder → Folder → Fault → Type 0

@@ -6,14 +6,12 @@ use Rattle.sp_outside.specs.Counts.{Rose}
 use Rattle.sp_outside.specs.Bytes.{Appended, AppendedPart, IfTold}
 use Rattle.sp_model.specs.declared.parts.Parts.{Parts}
 use Rattle.sp_gen.specs.Models.{generated_text}
-use Rattle.sp_spelled.specs.Signs.{printed}
-use Rattle.sp_canonical.specs.ModelSigns.{model_signs}
 use Rattle.sp_reader.specs.Sources.{Reads, IsFaulty}
 use Rattle.sp_words.specs.declared.job.Job.{Job}
 use Rattle.sp_words.specs.declared.job.Job.TheVariants.{Plan, Check, Show, Gen, Trial}
 use Rattle.sp_words.specs.Jobs.{Asks}
 use Rattle.sp_tool.specs.Lines.{usage_line, no_memory_line, cannot_write_line, cannot_read_line, too_long_line, refused_line}
-use Rattle.sp_tool.specs.Texts.{check_line, IsPlanText, IsTrialText}
+use Rattle.sp_tool.specs.Texts.{check_line, IsShownText, IsPlanText, IsTrialText}
 use Rattle.sp_tool.specs.declared.status.Status.{Status}
 use Rattle.sp_tool.specs.declared.status.Status.TheVariants.{Done, Refused, Usage, NoMemory, ReadFault, WriteFault}
 
@@ -47,7 +45,7 @@ Bars file source line =
 abbrev pub Allows : Job → List (List ℕ) → List ℕ → Type 0
 Allows (Plan p) (source ∷ []) text = Accepts source (λ model. IsPlanText model p text)
 Allows (Check name) (source ∷ []) text = Accepts source (λ model. text ≡ check_line model)
-Allows (Show name) (source ∷ []) text = Accepts source (λ model. text ≡ printed (model_signs model))
+Allows (Show name) (source ∷ []) text = Accepts source (λ model. IsShownText model text)
 Allows (Gen number) [] text = text ≡ generated_text number
 Allows (Trial number) [] text = (model : Parts) × Reads (generated_text number) model × IsTrialText model number text
 Allows job files text = ⊥

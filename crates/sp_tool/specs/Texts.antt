@@ -4,17 +4,17 @@ use Rattle.std.specs.Fmt.{decimal}
 use Rattle.sp_theory.specs.Points.{count_of}
 use Rattle.sp_theory.specs.Model.{least_return}
 use Rattle.sp_theory.specs.Backup.{tick_bound}
-use Rattle.sp_theory.specs.Book.{Event}
 use Rattle.sp_model.specs.declared.parts.Parts.{Parts}
 use Rattle.sp_model.specs.Problem.{problem, sizes_of}
 use Rattle.sp_show.specs.Decimals.{decimal_of}
 use Rattle.sp_choose.specs.Machines.{Machine, uniform, sweep}
 use Rattle.sp_value.specs.declared.tasks.Options.{Options}
 use Rattle.sp_value.specs.declared.tasks.Explore.TheVariants.{Uniform, Sweep}
-use Rattle.sp_value.specs.Tasks.{TaskParts}
-use Rattle.sp_planfile.specs.RunText.{events_text, AreSmall}
+use Rattle.sp_reader.specs.Sources.{Reads}
+use Rattle.sp_planfile.specs.ModelText.{model_bytes}
+use Rattle.sp_planning.specs.PlanFiles.{IsPlanFileFor, planned_contents}
 use Rattle.sp_planner.specs.declared.summary.Summary.{Summary}
-use Rattle.sp_planner.specs.Planned.{IsPlanned, IsSummaryFor}
+use Rattle.sp_planner.specs.Planned.{IsSummaryFor}
 use Rattle.sp_words.specs.declared.job.PlanWords.{PlanWords}
 
 -- ---- check
@@ -33,6 +33,16 @@ check_line p =
     counts_text (length p.variables) (count_of (sizes_of p.variables)) (count_of (sizes_of p.sights)) (length p.actions)
     ++ range_text (least_return (problem p)) (tick_bound (problem p))
 
+-- ---- show
+-- the text is the canonical one of the model, and means that model
+pub record IsShownText (model : Parts) (text : List ℕ) : Type 0 where
+  pub is : text ≡ model_bytes model
+  pub meaning : Reads text model
+
+-- a canonical text is that of one model only, and is shown as it is
+abbrev pub ShownTextsAreKept : Type 0
+ShownTextsAreKept = (model other : Parts) (text again : List ℕ) → IsShownText model text → Reads text other → IsShownText other again → (model ≡ other) × (again ≡ text)
+
 -- ---- plan
 -- the options that words ask for
 abbrev pub options_of : PlanWords → Options
@@ -42,18 +52,17 @@ options_of p = record { beliefs = p.beliefs; depth = p.depth; stages = p.stages;
 abbrev pub chooser_of : Bool → Machine
 chooser_of by_turns = cond by_turns (sweep 0) uniform
 
--- the text is that of the events that one thread plans for the model; their count and their numbers are of 64 bits
+-- the text is the plan file of what one thread plans for the model, with the values of its editions; and its lines of the model mean that model
 pub record IsPlanText (model : Parts) (p : PlanWords) (text : List ℕ) : Type 0 where
-  pub task : TaskParts
-  pub events : List Event
-  pub planned : IsPlanned model (options_of p) (chooser_of p.sweep) task events
-  pub small : AreSmall events
-  pub is : text ≡ events_text events
+  pub file : IsPlanFileFor model (options_of p) (chooser_of p.sweep) text
+  pub meaning : Reads (model_bytes model) model
 
--- a text is that of one list of events only
+-- the texts of two plans are the same only where the models and the options are, the actions and the observations of the beliefs, the events, and the values
+-- of the editions
 abbrev pub OnePlan : Type 0
 OnePlan =
-    (model other : Parts) (p q : PlanWords) (text : List ℕ) (one : IsPlanText model p text) (two : IsPlanText other q text) → one.events ≡ two.events
+    (model other : Parts) (p q : PlanWords) (text : List ℕ) (one : IsPlanText model p text) (two : IsPlanText other q text)
+    → (model ≡ other) × (options_of p ≡ options_of q) × (planned_contents model one.file.task one.file.events ≡ planned_contents other two.file.task two.file.events)
 
 -- ---- trial
 -- what a trial of a number plans: 100 beliefs of depth 10 and 5 stages, with the number as its seed

@@ -4,7 +4,7 @@ ghost use Rattle.std.specs.Prelude.{◌≡◌, ℕ, List, ◌≤◌, length, IfO
 ghost use Rattle.sp_outside.specs.Folder.{IsLater};
 ghost use Rattle.sp_reader.specs.Sources.{Reads};
 ghost use Rattle.sp_tool.specs.Table.{Told, TellsFault, model_limit};
-ghost use Rattle.sp_tool.specs.Faults.{HindersFile, TellsRefusal};
+ghost use Rattle.sp_tool.specs.Faults.{HindersReading, HindersFile, TellsRefusal};
 
 use crate::fault::Fault;
 use crate::lines;
@@ -22,21 +22,34 @@ pub fn file_model<S: Store>(alloc: Global, store: &mut S, file: &str) -> Result<
     ensures fault { IfErr result (λ f. HindersFile file.now (S.folder store.old) (S.folder store.new) f) }
     ensures later { IsLater (S.folder store.old) (S.folder store.new) }
 {
-    let source = match sp_outside::read_whole(alloc, store, file, MODEL_LIMIT) {
-        Ok(source) => source,
+    match file_bytes(alloc, store, file, MODEL_LIMIT) {
+        Ok(source) => model_in(alloc, file, source.as_slice()),
+        Err(fault) => Err(fault),
+    }
+}
+
+/// The bytes of a file, of which there may be so many.
+fn file_bytes<S: Store>(
+    alloc: Global,
+    store: &mut S,
+    file: &str,
+    limit: u64,
+) -> Result<Vec<u8>, Fault>
+    ensures bytes { IfOk result (λ source. Told ((S.folder store.old).content file.now) source.items × (length source.items ≤ limit)) }
+    ensures fault { IfErr result (λ f. HindersReading file.now limit (S.folder store.old) (S.folder store.new) f) }
+    ensures later { IsLater (S.folder store.old) (S.folder store.new) }
+{
+    match sp_outside::read_whole(alloc, store, file, limit) {
+        Ok(source) => Ok(source),
         Err(ReadError::Failed) => {
             let line = lines::write_cannot_read_line(alloc, file)?;
-            return Err(Fault::ReadFault(line));
+            Err(Fault::ReadFault(line))
         }
         Err(ReadError::TooLong { limit }) => {
             let line = lines::write_too_long_line(alloc, file, limit)?;
-            return Err(Fault::Refused(line));
+            Err(Fault::Refused(line))
         }
-        Err(ReadError::NoMemory) => return Err(Fault::NoMemory),
-    };
-    match model_in(alloc, file, source.as_slice()) {
-        Ok(model) => Ok(model),
-        Err(fault) => Err(fault),
+        Err(ReadError::NoMemory) => Err(Fault::NoMemory),
     }
 }
 

@@ -3,12 +3,13 @@
 
 mod fault;
 mod file;
+mod jobs;
 mod laws;
 mod lines;
 mod run;
 mod status;
 mod texts;
 
-pub use laws::one_plan;
+pub use laws::{one_plan, shown_texts_are_kept};
 pub use run::run_plain;
 pub use status::Status;

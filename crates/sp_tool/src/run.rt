@@ -1,23 +1,17 @@
 //! The top call.
 
-ghost use Rattle.std.specs.Prelude.{◌≡◌, ◌≤◌, [], ◌∷◌, map, string_bytes, IfOk, IfErr, MatchResult, Ok, Err};
+ghost use Rattle.std.specs.Prelude.{◌≡◌, [], ◌∷◌, map, string_bytes, MatchResult};
 ghost use Rattle.sp_outside.specs.Folder.{IsLater};
 ghost use Rattle.sp_choose.specs.Machines.{uniform, sweep};
-ghost use Rattle.sp_words.specs.Jobs.{IsPossible, ArePlanNumbers};
-ghost use Rattle.sp_words.specs.declared.job.Job.TheVariants.{Plan, Check, Show, Gen, Trial};
-ghost use Rattle.sp_tool.specs.Table.{Answers, Cause, Allows, Call, IsText};
-ghost use Rattle.sp_tool.specs.Faults.{Hinders, status_of, line_of};
+ghost use Rattle.sp_tool.specs.Table.{Answers, Cause, Call};
+ghost use Rattle.sp_tool.specs.Faults.{status_of, line_of};
 
 use crate::fault::Fault;
-use crate::file::{file_model, model_in};
+use crate::jobs::text_for;
 use crate::status::Status;
-use crate::texts::{check_text, plan_text, trial_text};
-use sp_canonical::model_text;
 use sp_choose::Chooser;
-use sp_dd::NoMemory;
-use sp_gen::generated;
 use sp_outside::{Sink, Store};
-use sp_words::{Job, PlanWords, WordsError, read_words};
+use sp_words::{WordsError, read_words};
 use std::alloc::Global;
 
 /// Runs one command: judges its words, reads its files from `store`, and writes its text to `out`, or else one line to `err`.
@@ -81,109 +75,4 @@ fn work<S: Store, K: Sink>(
         Ok(()) => Ok(()),
         Err(_) => Err(Fault::WriteFault),
     }
-}
-
-/// The text of a job.
-fn text_for<S: Store>(
-    alloc: Global,
-    store: &mut S,
-    job: &Job,
-    choosers: Vec<Box<dyn Chooser + Send>>,
-) -> Result<Vec<u8>, Fault>
-    requires job { IsPossible job.now }
-    requires choosers { map (λ b. machine b) choosers.items ≡ uniform ∷ sweep 0 ∷ [] }
-    ensures text { IfOk result (λ t. IsText (S.folder store.old) job.now t.items) }
-    ensures fault { IfErr result (λ f. Hinders job.now (S.folder store.old) (S.folder store.new) f) }
-    ensures later { IsLater (S.folder store.old) (S.folder store.new) }
-{
-    match job {
-        Job::Plan(words) => plan_job(alloc, store, words, choosers),
-        Job::Check { model } => check_job(alloc, store, model.as_str()),
-        Job::Show { model } => show_job(alloc, store, model.as_str()),
-        Job::Gen { number } => gen_job(alloc, *number),
-        Job::Trial { number } => trial_job(alloc, *number, choosers),
-    }
-}
-
-/// The text of a plan.
-fn plan_job<S: Store>(
-    alloc: Global,
-    store: &mut S,
-    words: &PlanWords,
-    choosers: Vec<Box<dyn Chooser + Send>>,
-) -> Result<Vec<u8>, Fault>
-    requires words { ArePlanNumbers words.now }
-    requires choosers { map (λ b. machine b) choosers.items ≡ uniform ∷ sweep 0 ∷ [] }
-    ensures text { IfOk result (λ t. IsText (S.folder store.old) (Plan words.now) t.items) }
-    ensures fault { IfErr result (λ f. Hinders (Plan words.now) (S.folder store.old) (S.folder store.new) f) }
-    ensures later { IsLater (S.folder store.old) (S.folder store.new) }
-{
-    match file_model(alloc, store, words.model.as_str()) {
-        Ok(model) => or_no_memory(plan_text(alloc, model, words, choosers)),
-        Err(fault) => Err(fault),
-    }
-}
-
-/// The text of a check.
-fn check_job<S: Store>(alloc: Global, store: &mut S, file: &str) -> Result<Vec<u8>, Fault>
-    ensures text { IfOk result (λ t. IsText (S.folder store.old) (Check file.now) t.items) }
-    ensures fault { IfErr result (λ f. Hinders (Check file.now) (S.folder store.old) (S.folder store.new) f) }
-    ensures later { IsLater (S.folder store.old) (S.folder store.new) }
-{
-    match file_model(alloc, store, file) {
-        Ok(model) => or_no_memory(check_text(alloc, &model)),
-        Err(fault) => Err(fault),
-    }
-}
-
-/// The canonical text of a model.
-fn show_job<S: Store>(alloc: Global, store: &mut S, file: &str) -> Result<Vec<u8>, Fault>
-    ensures text { IfOk result (λ t. IsText (S.folder store.old) (Show file.now) t.items) }
-    ensures fault { IfErr result (λ f. Hinders (Show file.now) (S.folder store.old) (S.folder store.new) f) }
-    ensures later { IsLater (S.folder store.old) (S.folder store.new) }
-{
-    match file_model(alloc, store, file) {
-        Ok(model) => or_no_memory(model_text(alloc, &model)),
-        Err(fault) => Err(fault),
-    }
-}
-
-/// A text, or want of memory as the call has it.
-fn or_no_memory(text: Result<Vec<u8>, NoMemory>) -> Result<Vec<u8>, Fault>
-    ensures { MatchResult text (λ t. result ≡ Ok t) (λ _. result ≡ Err Fault.NoMemory) }
-{
-    match text {
-        Ok(text) => Ok(text),
-        Err(_) => Err(Fault::NoMemory),
-    }
-}
-
-/// The text of a generated model.
-fn gen_job(alloc: Global, number: u64) -> Result<Vec<u8>, Fault>
-    requires { number ≤ 16 }
-    ensures text { IfOk result (λ t. Allows (Gen number) [] t.items) }
-    ensures fault { IfErr result (λ f. f ≡ Fault.NoMemory) }
-{
-    let text = generated(alloc, number)?;
-    Ok(text.into_bytes())
-}
-
-/// The text of a trial.
-fn trial_job(
-    alloc: Global,
-    number: u64,
-    choosers: Vec<Box<dyn Chooser + Send>>,
-) -> Result<Vec<u8>, Fault>
-    requires number { number ≤ 16 }
-    requires choosers { map (λ b. machine b) choosers.items ≡ uniform ∷ sweep 0 ∷ [] }
-    ensures text { IfOk result (λ t. Allows (Trial number) [] t.items) }
-    ensures fault { IfErr result (λ f. f ≡ Fault.NoMemory) }
-{
-    let source = generated(alloc, number)?;
-    let model = match model_in(alloc, "generated", source.as_bytes()) {
-        Ok(model) => model,
-        Err(fault) => return Err(fault),
-    };
-    let text = trial_text(alloc, model, number, choosers)?;
-    Ok(text)
 }

@@ -6,14 +6,15 @@ ghost use Rattle.sp_model.specs.Problem.{sizes_of};
 ghost use Rattle.sp_choose.specs.Machines.{uniform, sweep};
 ghost use Rattle.sp_words.specs.declared.job.PlanWords.{PlanWords};
 ghost use Rattle.sp_words.specs.Jobs.{ArePlanNumbers};
-ghost use Rattle.sp_tool.specs.Texts.{check_line, counts_text, range_text, options_of, chooser_of, trial_lines, trial_front, trial_back, IsPlanText, IsTrialText};
+ghost use Rattle.sp_tool.specs.Texts.{check_line, counts_text, range_text, options_of, chooser_of, trial_lines, trial_front, trial_back, IsShownText, IsPlanText, IsTrialText};
 
 use crate::fault::Fault;
 use sp_choose::Chooser;
 use sp_dd::NoMemory;
 use sp_model::Model;
-use sp_planfile::run_text;
-use sp_planner::{Summary, plan, summarize};
+use sp_planner::{Summary, summarize};
+use sp_planning::plan_file;
+use sp_read_back::{canonical_text, functions_law};
 use sp_show::decimal;
 use sp_value::{Explore, Options};
 use sp_words::PlanWords;
@@ -59,7 +60,14 @@ fn range_text(alloc: Global, least: i128, units: u64) -> Result<String, NoMemory
     Ok(text)
 }
 
-/// The text of the plan that words ask for.
+/// The canonical text of a model.
+pub fn show_text(alloc: Global, model: &Model) -> Result<Vec<u8>, NoMemory>
+    ensures { IfOk result (λ text. IsShownText model.now text.items) }
+{
+    canonical_text(alloc, model)
+}
+
+/// The plan file of the plan that words ask for.
 pub fn plan_text(
     alloc: Global,
     model: Model,
@@ -70,10 +78,12 @@ pub fn plan_text(
     requires choosers { map (λ b. machine b) choosers.items ≡ uniform ∷ sweep 0 ∷ [] }
     ensures { IfOk result (λ text. IsPlanText model words.now text.items) }
 {
+    // what is known of the model and of its functions, and below of the length of the text
+    functions_law(model.parts());
     let chooser = picked(choosers, words.sweep);
-    let run = plan(alloc, model, options(words), chooser)?;
-    let text = run_text(alloc, &run)?;
-    Ok(text.into_bytes())
+    let text = plan_file(alloc, model, options(words), chooser)?;
+    let _ = text.len();
+    Ok(text)
 }
 
 /// The options that words ask for.

@@ -1,4 +1,4 @@
-use Rattle.std.proofs.Common.{rules, ◌≡◌, ◌<◌, ◌≤◌, ◌∷◌, [], ◌++◌, ℕ, List, length, arith, ap, sym, ◌∙◌, codes, append_assoc, Ok, Err, refl, ℤ, Bool, true, false}
+use Rattle.std.proofs.Common.{arith}
 use Rattle.sp_filed.proofs.Lines.{third_same}
 use Rattle.sp_filed.proofs.entries.answer_at.Goals as goal
 

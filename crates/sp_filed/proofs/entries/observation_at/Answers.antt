@@ -1,4 +1,4 @@
-use Rattle.std.proofs.Common.{rules, ◌≡◌, ◌<◌, ◌≤◌, ◌∷◌, [], ◌++◌, ℕ, List, length, arith, ap, sym, ◌∙◌, codes, append_assoc, Ok, Err, refl, ℤ, Bool, true, false}
+use Rattle.std.proofs.Common.{arith}
 use Rattle.sp_filed.proofs.Lines.{one_same}
 use Rattle.sp_filed.proofs.entries.observation_at.Goals as goal
 

@@ -1,4 +1,4 @@
-use Rattle.std.proofs.Common.{rules, ◌≡◌, ◌≢◌, ◌<◌, ◌≤◌, ◌∷◌, [], ◌++◌, ℕ, List, length, arith, ap, sym, ◌∙◌, codes, append_assoc, Ok, Err, refl, ℤ, Bool, true, false, Option, Some, None, get_or, Result, unsigned_abs}
+use Rattle.std.proofs.Common.{◌≡◌, ◌≢◌, ◌++◌, ℕ, List, arith, ap, sym, ◌∙◌, codes, Ok, Err, Option, Some, None, get_or, Result}
 use Rattle.std.specs.Prelude.{MatchOption, IfOk}
 use Rattle.sp_theory.specs.Book as book
 use Rattle.sp_theory.specs.Book.{settle, publish, prune, end}

@@ -1,4 +1,4 @@
-use Rattle.std.proofs.Common.{rules, ◌≡◌, ◌<◌, ◌≤◌, ◌∷◌, [], ◌++◌, ℕ, List, length, arith, ap, sym, ◌∙◌, codes, append_assoc, Ok, Err}
+use Rattle.std.proofs.Common.{sym}
 use Rattle.sp_lines.specs.Lines.{BeginsSpaced}
 use Rattle.std.proofs.Common.{subst}
 use Rattle.sp_lines.proofs.Spaces.{pair_told}

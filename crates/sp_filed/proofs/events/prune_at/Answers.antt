@@ -1,4 +1,4 @@
-use Rattle.std.proofs.Common.{rules, ◌≡◌, ◌<◌, ◌≤◌, ◌∷◌, [], ◌++◌, ℕ, List, length, arith, ap, sym, ◌∙◌, codes, append_assoc, Ok, Err}
+use Rattle.std.proofs.Common.{rules, ◌≡◌, ◌<◌, ◌∷◌, [], ℕ, List, length, arith, ap}
 use Rattle.sp_filed.proofs.events.prune_at.Goals as goal
 use Rattle.sp_lines.specs.Lines.{spaced_pairs}
 

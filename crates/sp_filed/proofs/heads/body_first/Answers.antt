@@ -1,4 +1,4 @@
-use Rattle.std.proofs.Common.{rules, ◌≡◌, ◌≢◌, ◌<◌, ◌≤◌, ◌-◌, ◌∷◌, [], ◌++◌, ℕ, List, length, take, map, arith, ap, sym, ◌∙◌, codes, append_assoc, Ok, Err, refl, ℤ, Bool, true, false, Option, Some, None, get_or, Result, subst, suc, ◌+◌}
+use Rattle.std.proofs.Common.{rules, ◌≡◌, ◌≢◌, ◌∷◌, [], ◌++◌, ap, sym, ◌∙◌, codes, refl}
 use Rattle.sp_lines.specs.Lines.{lines_of}
 use Rattle.sp_lines.proofs.Lists.{lines_step, all_push}
 use Rattle.sp_planfile.specs.Form.{IsModelLine}

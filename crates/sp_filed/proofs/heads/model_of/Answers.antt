@@ -1,4 +1,4 @@
-use Rattle.std.proofs.Common.{rules, ◌≡◌, ◌≢◌, ◌<◌, ◌≤◌, ◌-◌, ◌∷◌, [], ◌++◌, ℕ, List, length, take, map, arith, ap, sym, ◌∙◌, codes, append_assoc, Ok, Err, refl, ℤ, Bool, true, false, Option, Some, None, get_or, Result, subst, suc, ◌+◌}
+use Rattle.std.proofs.Common.{◌≡◌, ◌≢◌, ℕ, List, ap, sym, ◌∙◌, Ok, Err, Option, Some, None, Result, subst}
 use Rattle.std.specs.Prelude.{IfOk, MatchOption}
 use Rattle.sp_dd.specs.declared.NoMemory.{NoMemory}
 use Rattle.sp_model.specs.declared.parts.Parts.{Parts}

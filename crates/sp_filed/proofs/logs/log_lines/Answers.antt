@@ -1,11 +1,9 @@
-use Rattle.std.proofs.Common.{rules, ◌≡◌, ◌≢◌, ◌<◌, ◌≤◌, ◌∷◌, [], ◌++◌, ℕ, List, length, map, arith, ap, sym, ◌∙◌, codes, append_assoc, Ok, Err, refl, ℤ, Bool, true, false, Option, Some, None, get_or, Result, unsigned_abs, subst, inl, inr}
+use Rattle.std.proofs.Common.{◌≡◌, ◌≢◌, ◌∷◌, [], ◌++◌, length, arith, ap, sym, ◌∙◌, true, false, subst}
 use Rattle.std.specs.List.{list_any}
 use Rattle.std.specs.Str.{bytes_eq}
 use Rattle.std.proofs.lemmas.List.{length-map, map-append, length-append}
 use Rattle.sp_theory.specs.Logs as theory
-use Rattle.sp_names.specs.Names.{with_name}
 use Rattle.sp_session.specs.Logs.{log_of, logs_of}
-use Rattle.sp_planfile.specs.PlanText.{logs_text}
 use Rattle.sp_filed.specs.Stops.{names_of, HasNoEntry, AreLogs}
 use Rattle.sp_planfile.specs.Form.{IsSessionName}
 use Rattle.std.specs.Prelude.{All}

@@ -1,4 +1,3 @@
-use Rattle.std.proofs.Common.{rules, ◌≡◌, ◌≢◌, ◌<◌, ◌≤◌, ◌∷◌, [], ◌++◌, ℕ, List, length, map, arith, ap, sym, ◌∙◌, codes, append_assoc, Ok, Err, refl, ℤ, Bool, true, false, Option, Some, None, get_or, Result, unsigned_abs, subst, inl, inr}
 use Rattle.sp_lines.proofs.Lists.{no_line, other_line}
 use Rattle.sp_planfile.specs.Form.{IsSessionName}
 use Rattle.sp_filed.specs.Stops.{session_line}

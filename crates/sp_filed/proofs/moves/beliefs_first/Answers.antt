@@ -1,4 +1,4 @@
-use Rattle.std.proofs.Common.{rules, ◌≡◌, ◌≢◌, ◌<◌, ◌≤◌, ◌∷◌, [], ◌++◌, ℕ, List, length, map, arith, ap, sym, ◌∙◌, codes, append_assoc, Ok, Err, refl, ℤ, Bool, true, false, Option, Some, None, get_or, Result, unsigned_abs, subst, inl, inr, suc, ◌+◌}
+use Rattle.std.proofs.Common.{◌≡◌, ◌∷◌, [], ◌++◌, ℕ, length, arith, ap, sym, ◌∙◌, Err, Some, Result, subst}
 use Rattle.std.specs.Prelude.{slice_get}
 use Rattle.std.proofs.lemmas.List.{length-append}
 use Rattle.sp_model.specs.declared.beliefs.Sample.{Sample}

@@ -1,4 +1,4 @@
-use Rattle.std.proofs.Common.{rules, ◌≡◌, ◌<◌, ◌≤◌, ◌∷◌, [], ◌++◌, ℕ, List, length, arith, ap, sym, ◌∙◌, codes, append_assoc, Ok, Err}
+use Rattle.std.proofs.Common.{◌≡◌, ◌∷◌, [], ◌++◌, ℕ, List, ap, sym, ◌∙◌}
 use Rattle.std.proofs.Common.{Option, Some, None, ◌≢◌}
 use Rattle.std.specs.Prelude.{MatchOption}
 use Rattle.sp_lines.specs.Lines.{spaced, IsSmall}

@@ -1,4 +1,4 @@
-use Rattle.std.proofs.Common.{rules, ◌≡◌, ◌<◌, ◌≤◌, ◌∷◌, [], ◌++◌, ℕ, List, length, arith, ap, sym, ◌∙◌, codes, append_assoc, Ok, Err, refl, ℤ, Bool, true, false}
+use Rattle.std.proofs.Common.{◌∷◌, [], arith, sym, ◌∙◌, codes}
 use Rattle.sp_lines.specs.Lines.{spaced}
 use Rattle.sp_planfile.proofs.Sections.{behind_same}
 use Rattle.sp_filed.proofs.Lines.{two_same}

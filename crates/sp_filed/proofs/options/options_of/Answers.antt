@@ -1,4 +1,4 @@
-use Rattle.std.proofs.Common.{rules, ◌≡◌, ◌<◌, ◌≤◌, ◌∷◌, [], ◌++◌, ℕ, List, length, arith, ap, sym, ◌∙◌, codes, append_assoc, Ok, Err}
+use Rattle.std.proofs.Common.{rules, sym}
 use Rattle.sp_value.specs.declared.tasks.Options.{Options}
 use Rattle.std.proofs.Common.{subst}
 use Rattle.sp_planfile.specs.Form.{AreInRange}

@@ -1,6 +1,5 @@
 use Rattle.std.proofs.Common.{◌≡◌, ap, sym, Err, inl, inr}
 use Rattle.std.specs.Arc.{arc_value}
-use Rattle.sp_filed.specs.declared.error.PlanKind.{PlanKind}
 use Rattle.sp_filed.specs.declared.error.PlanKind.TheVariants.{Shape}
 use Rattle.sp_filed.specs.declared.error.PlanError.TheVariants.{Fault}
 use Rattle.sp_filed.proofs.PlanFiles.{first_version}

@@ -1,4 +1,4 @@
-use Rattle.std.proofs.Common.{◌≡◌, ◌+◌, ◌≤◌, suc, drop, length}
+use Rattle.std.proofs.Common.{◌≡◌, ◌+◌, ◌≤◌, suc, drop}
 use Rattle.sp_value.specs.Events.{events_of}
 use Rattle.sp_planfile.specs.Form.{edition_count}
 use Rattle.sp_filed.proofs.sections.editions_of.Given as goal

@@ -1,4 +1,4 @@
-use Rattle.std.proofs.Common.{rules, ◌≡◌, ◌≢◌, ◌<◌, ◌≤◌, ◌∷◌, [], ◌++◌, ℕ, List, length, map, arith, ap, sym, ◌∙◌, codes, append_assoc, Ok, Err, refl, ℤ, Bool, true, false, Option, Some, None, get_or, Result, unsigned_abs, subst, inl, inr}
+use Rattle.std.proofs.Common.{inr}
 use Rattle.sp_filed.proofs.sections.events_first.Goals as goal
 
 pub returns-in-Err-event_lines-clause-err : goal.returns-in-Err-event_lines-clause-err

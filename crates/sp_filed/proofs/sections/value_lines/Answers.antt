@@ -1,4 +1,4 @@
-use Rattle.std.proofs.Common.{rules, ◌≡◌, ◌≢◌, ◌<◌, ◌≤◌, ◌∷◌, [], ◌++◌, ℕ, List, length, map, arith, ap, sym, ◌∙◌, codes, append_assoc, Ok, Err, refl, ℤ, Bool, true, false, Option, Some, None, get_or, Result, unsigned_abs, subst, inl, inr}
+use Rattle.std.proofs.Common.{rules, ◌≡◌, ◌≢◌, ◌<◌, ◌∷◌, [], ◌++◌, length, arith, ap, sym, ℤ, subst}
 use Rattle.std.specs.List.{AllByRecursion}
 use Rattle.std.proofs.lemmas.List.{length-append}
 use Rattle.sp_lines.proofs.Lists.{lines_step, all_push}

@@ -1,4 +1,4 @@
-use Rattle.std.proofs.Common.{rules, ◌≡◌, ◌≢◌, ◌<◌, ◌≤◌, ◌∷◌, [], ◌++◌, ℕ, List, length, map, arith, ap, sym, ◌∙◌, codes, append_assoc, Ok, Err, refl, ℤ, Bool, true, false, Option, Some, None, get_or, Result, unsigned_abs, subst, inl, inr}
+use Rattle.std.proofs.Common.{arith, sym, ◌∙◌, codes, inl}
 use Rattle.sp_lines.specs.Lines.{IsSmall}
 use Rattle.sp_planfile.proofs.Sections.{count_told}
 use Rattle.sp_filed.proofs.Stopped.{left_is}

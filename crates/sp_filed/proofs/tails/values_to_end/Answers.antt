@@ -1,4 +1,4 @@
-use Rattle.std.proofs.Common.{rules, ◌≡◌, ◌≢◌, ◌<◌, ◌≤◌, ◌∷◌, [], ◌++◌, ℕ, List, length, map, arith, ap, sym, ◌∙◌, codes, append_assoc, Ok, Err, refl, ℤ, Bool, true, false, Option, Some, None, get_or, Result, unsigned_abs, subst, inl, inr, suc, ◌+◌}
+use Rattle.std.proofs.Common.{◌≡◌, ◌∷◌, ◌++◌, ℕ, List, length, ap, sym, ◌∙◌, codes, append_assoc, Err, ℤ, true, subst, inr}
 use Rattle.sp_lines.specs.Lines.{lines_of}
 use Rattle.sp_planfile.specs.PlanText.{count_line, value_line}
 use Rattle.sp_filed.specs.declared.stops.Stop.TheVariants.{Shape}

@@ -1,4 +1,4 @@
-use Rattle.std.proofs.Common.{rules, ◌≡◌, ◌≢◌, ◌<◌, ◌≤◌, ◌∷◌, [], ◌++◌, ℕ, List, length, map, arith, ap, sym, ◌∙◌, codes, append_assoc, Ok, Err, refl, ℤ, Bool, true, false, Option, Some, None, get_or, Result, unsigned_abs, subst, inl, inr, suc, ◌+◌}
+use Rattle.std.proofs.Common.{◌≡◌, length, sym}
 use Rattle.sp_lines.proofs.Lists.{no_line, other_line}
 use Rattle.sp_planfile.specs.PlanText.{options_line}
 use Rattle.sp_planfile.specs.Form.{AreInRange}

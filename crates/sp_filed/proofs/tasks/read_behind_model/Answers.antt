@@ -1,5 +1,4 @@
-use Rattle.std.proofs.Common.{rules, ◌≡◌, ◌≢◌, ◌<◌, ◌≤◌, ◌∷◌, [], ◌++◌, ℕ, List, length, map, arith, ap, sym, ◌∙◌, codes, append_assoc, Ok, Err, refl, ℤ, Bool, true, false, Option, Some, None, get_or, Result, unsigned_abs, subst, inl, inr, suc, ◌+◌}
-use Rattle.std.specs.Arc.{arc_value}
+use Rattle.std.proofs.Common.{◌≡◌, ap, sym, Err, subst}
 use Rattle.sp_value.specs.Tasks.{TaskParts}
 use Rattle.sp_filed.specs.declared.moves.Unsampled.TheVariants.{Sample}
 use Rattle.sp_filed.specs.Tails.{IsReadBehindModel}

@@ -1,4 +1,4 @@
-use Rattle.std.proofs.Common.{rules, ◌≡◌, ◌≢◌, ◌<◌, ◌≤◌, ◌∷◌, [], ◌++◌, ℕ, List, length, map, arith, ap, sym, ◌∙◌, codes, append_assoc, Ok, Err, refl, ℤ, Bool, true, false, Option, Some, None, get_or, Result, unsigned_abs, subst, inl, inr, suc, ◌+◌}
+use Rattle.std.proofs.Common.{◌≡◌, ap, ◌∙◌, Err, subst, inr}
 use Rattle.sp_filed.specs.declared.moves.Unsampled.TheVariants.{Shape}
 use Rattle.sp_filed.specs.declared.sizes.Sizes.{Sizes}
 use Rattle.sp_filed.specs.Sampled.{AreSampledBy}

@@ -1,4 +1,4 @@
-use Rattle.std.proofs.Common.{rules, ◌≡◌, ◌≢◌, ◌<◌, ◌≤◌, ◌∷◌, [], ◌++◌, ℕ, List, length, arith, ap, sym, ◌∙◌, codes, append_assoc, Ok, Err, refl, ℤ, Bool, true, false, Option, Some, None, get_or, Result, unsigned_abs}
+use Rattle.std.proofs.Common.{rules, ◌≡◌, ◌≢◌, arith, ap, sym, ◌∙◌, codes, Ok, ℤ, Result, unsigned_abs}
 use Rattle.sp_lex.specs.Decimal.{ticks_of}
 use Rattle.sp_lex.specs.declared.decimal.NumError.{NumError}
 use Rattle.sp_spelled.proofs.Digits.{ticks_are}

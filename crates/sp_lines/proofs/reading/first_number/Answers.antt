@@ -1,6 +1,4 @@
-use Rattle.std.proofs.Common.{take, drop, List, ◌≡◌, ◌++◌, ℕ, rules, subst}
-use Rattle.std.specs.Str.Parse.{AllDigits}
-use Rattle.sp_lines.specs.Lines.{BeginsNoDigit}
+use Rattle.std.proofs.Common.{take, drop, rules}
 use Rattle.sp_lines.proofs.Digits.{no_number}
 use Rattle.sp_lines.proofs.reading.first_number.Goals as goal
 

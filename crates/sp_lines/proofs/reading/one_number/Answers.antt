@@ -1,4 +1,4 @@
-use Rattle.std.proofs.Common.{rules, ◌≡◌, ◌<◌, length, arith, ap, [], ◌∙◌, sym}
+use Rattle.std.proofs.Common.{rules, ◌<◌, length, arith, ap, []}
 use Rattle.sp_lines.proofs.Spaces.{spaced_rest}
 use Rattle.sp_lines.proofs.reading.one_number.Goals as goal
 

@@ -1,4 +1,3 @@
-use Rattle.std.proofs.Common.{rules}
 use Rattle.sp_lines.proofs.Spaces.{pair_continues}
 use Rattle.sp_lines.proofs.reading.pair_first.Goals as goal
 

@@ -1,6 +1,5 @@
 use Rattle.std.proofs.Common.{rules, ◌<◌, ◌∙◌, sym, ap, ◌≡◌, ◌++◌, ◌∷◌, [], subst, length}
 use Rattle.std.specs.List.{AllByRecursion}
-use Rattle.std.specs.Fmt.{decimal}
 use Rattle.sp_lines.specs.Lines.{spaced, IsSmall}
 use Rattle.sp_lines.proofs.Spaces.{spaced_push, small_push, list_after, list_begins}
 use Rattle.sp_lines.proofs.reading.spaced_numbers.Goals as goal

@@ -1,4 +1,4 @@
-use Rattle.std.proofs.Common.{arith, ◌∙◌, ◌+◌, ◌*◌, ◌-◌, ◌≡◌, ◌≤◌, get_or, sym}
+use Rattle.std.proofs.Common.{arith}
 use Rattle.std.proofs.lemmas.Str.Parse.{digit_at}
 use Rattle.sp_lines.proofs.Digits.{too_great, value_step}
 use Rattle.sp_lines.proofs.reading.value_of.Goals as goal

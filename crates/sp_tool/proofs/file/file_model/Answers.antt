@@ -1,11 +1,13 @@
-use Rattle.std.proofs.Common.{◌≡◌, ◌∙◌, inl, ap, rules}
-use Rattle.sp_tool.specs.Table.{model_limit}
-use Rattle.sp_tool.specs.Lines.{too_long_line}
-use Rattle.sp_tool.proofs.TableLemmas.{some_longer}
+use Rattle.std.proofs.Common.{ℕ, List, subst}
+use Rattle.std.proofs.lemmas.Result.{IfErr-weaker}
+use Rattle.sp_tool.specs.Faults.{TellsRefusal}
+use Rattle.sp_tool.proofs.TableLemmas.{model_refused}
 use Rattle.sp_tool.proofs.file.file_model.Goals as goal
 
-pub returns-in-Err-TooLong-clause-fault : goal.returns-in-Err-TooLong-clause-fault
-returns-in-Err-TooLong-clause-fault g c =
-    let limit : c.in-Err-TooLong.limit ≡ model_limit = search rules in
-    let longer = some_longer ((g.S.Store.folder c.args.store.now).content c.args.file.now) model_limit (λ bytes told. search rules) in
-    (longer.0, longer.1, inl (longer.2, c.in_ok-line-in-Err-TooLong.ensures ∙ ap (too_long_line c.args.file.now) limit))
+pub returns-in-Ok-clause-fault : goal.returns-in-Ok-clause-fault
+returns-in-Ok-clause-fault g c =
+    let file = c.args.file.now in
+    let told = c.in-Ok.ensures.bytes in
+    IfErr-weaker c.model_in.result _ _
+    (λ f h. model_refused file c.in-Ok.source.items (g.S.Store.folder c.args.store.now) (g.S.Store.folder c.file_bytes.new.store) f told.0 told.1 (subst (λ (b : List ℕ). TellsRefusal file b f) c.as_slice.ensures.value h))
+    c.model_in.ensures.fault

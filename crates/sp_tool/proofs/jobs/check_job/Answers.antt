@@ -4,7 +4,7 @@ use Rattle.sp_words.specs.declared.job.Job.TheVariants.{Check}
 use Rattle.sp_tool.specs.Table.{IsText}
 use Rattle.sp_tool.specs.declared.fault.Fault.TheVariants.{NoMemory}
 use Rattle.sp_tool.proofs.TableLemmas.{check_hindered, on_kept}
-use Rattle.sp_tool.proofs.run.check_job.Goals as goal
+use Rattle.sp_tool.proofs.jobs.check_job.Goals as goal
 
 pub returns-in-Err-clause-fault : goal.returns-in-Err-clause-fault
 returns-in-Err-clause-fault g c = check_hindered c.args.file.now (g.S.Store.folder c.args.store.now) (g.S.Store.folder c.file_model.new.store) c.in-Err.fault c.in-Err.ensures.fault

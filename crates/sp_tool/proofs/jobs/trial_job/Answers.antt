@@ -1,7 +1,7 @@
 use Rattle.std.proofs.Common.{ℕ, List, ◌∙◌, subst, codes}
 use Rattle.sp_reader.specs.Sources.{Reads}
 use Rattle.sp_tool.proofs.TableLemmas.{generated_fault}
-use Rattle.sp_tool.proofs.run.trial_job.Goals as goal
+use Rattle.sp_tool.proofs.jobs.trial_job.Goals as goal
 
 pub returns-clause-text : goal.returns-clause-text
 returns-clause-text g c =
