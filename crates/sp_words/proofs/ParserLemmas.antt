@@ -1,5 +1,5 @@
 -- What the matches of the parser of command lines give.
-use Rattle.std.proofs.Common.{◌≡◌, ℕ, List, [], ◌∷◌, Bool, true, false, Option, Some, None, sym, refl, codes, ◌⊎◌, inl, inr, Ok, Err, Result, IfErr, IfOk, MatchOption, option_map}
+use Rattle.std.proofs.Common.{◌≡◌, ℕ, List, [], ◌∷◌, Bool, true, false, Option, Some, None, sym, ◌∙◌, refl, codes, ◌⊎◌, inl, inr, Ok, Err, Result, IfErr, IfOk, MatchOption, option_map}
 use Rattle.std.specs.Borrow.{Bor}
 use Rattle.clap.specs.Words.{Row, kind_of, FailsBy, Kinds}
 use Rattle.clap.specs.declared.error.Error.{Error}
@@ -29,6 +29,9 @@ passes kinds (Err e) fails = tt
 pub text_of : (found : Option (List ℕ)) (given : Option (Bor (List ℕ))) → option_map (λ s. s.now) given ≡ found → MatchOption given (found ≡ None) (λ s. found ≡ Some s.now)
 text_of found None is = sym is
 text_of found (Some s) is = sym is
+
+pub no_text : (found : Option (List ℕ)) → found ≡ None → (word : List ℕ) → ¬ (found ≡ Some word)
+no_text found none word some = let bad : ◌≡◌ {A = Option (List ℕ)} None (Some word) = sym none ∙ some in cc
 
 -- matches without a number give no job of these commands
 pub no_gen_given : (rows : List Row) → ((n : ℕ) → ¬ (GivesNumber rows (codes "number") 0 16 n)) → (job : Job) → command_of job ≡ codes "gen" → ¬ (Gives rows job)

@@ -46,9 +46,13 @@ pub record Names : Type 0 where
   pub options : List (List ℕ)
   pub flags : List (List ℕ)
 
--- a word by itself isn't empty and isn't a name; a flag is one of the command's flags; an option's name is one of its options
+-- a word can stand by itself: it isn't empty and isn't a name
+abbrev pub IsPlaced : List ℕ → Type 0
+IsPlaced word = (0 < length word) × (is_name word ≡ false)
+
+-- a word by itself can stand so; a flag is one of the command's flags; an option's name is one of its options
 abbrev pub IsItem : Names → Item → Type 0
-IsItem names (placed word) = (0 < length word) × (is_name word ≡ false)
+IsItem names (placed word) = IsPlaced word
 IsItem names (flagged name) = (is_name name ≡ true) × (list_any (bytes_eq name) names.flags ≡ true)
 IsItem names (valued name value) = (is_name name ≡ true) × (list_any (bytes_eq name) names.flags ≡ false) × Contains names.options name
 
@@ -68,6 +72,11 @@ HasNumber items option least greatest n = (text : List ℕ) × (values option it
 -- the flag is there once, or not at all
 abbrev pub HasFlag : List Item → List ℕ → Bool → Type 0
 HasFlag items flag is = times_flagged flag items ≡ cond is 1 0
+
+-- the option is there once, with the name of a file; or it is not there, and names none
+abbrev pub HasFile : List Item → List ℕ → Option (List ℕ) → Type 0
+HasFile items option None = values option items ≡ []
+HasFile items option (Some file) = (values option items ≡ file ∷ []) × IsPlaced file
 
 -- the items that words say, behind those that were read, with the name of an option that waits for its value
 abbrev pub items_on : Names → List Item → Option (List ℕ) → List (List ℕ) → Option (List Item)

@@ -1,12 +1,13 @@
 -- What the words of a call ask for.
-use Rattle.std.specs.Prelude.{◌≡◌, ℕ, ◌-◌, ◌^◌, ◌<◌, ◌≤◌, List, [], ◌∷◌, length, codes, Bool, true, false, cond, ◌⊎◌, Some}
+use Rattle.std.specs.Prelude.{◌≡◌, ℕ, ◌-◌, ◌^◌, ◌≤◌, List, [], ◌∷◌, codes, Bool, true, false, cond, ◌⊎◌, Option, Some, None}
 use Rattle.std.specs.List.{AllByRecursion}
 use Rattle.clap.specs.Words.{Row, first_of, subcommand_of, takes, fault_of}
-use Rattle.sp_words.specs.Items.{Item, words_of, places, values, is_name, Names, IsItem, IsNumber, HasNumber, HasFlag}
+use Rattle.sp_words.specs.Items.{Item, words_of, places, values, Names, IsPlaced, IsItem, IsNumber, HasNumber, HasFlag, HasFile}
 use Rattle.sp_words.specs.Apps.{tool_app}
+use Rattle.sp_words.specs.declared.job.PlanNumbers.{PlanNumbers}
 use Rattle.sp_words.specs.declared.job.PlanWords.{PlanWords}
 use Rattle.sp_words.specs.declared.job.Job.{Job}
-use Rattle.sp_words.specs.declared.job.Job.TheVariants.{Plan, Check, Show, Gen, Trial}
+use Rattle.sp_words.specs.declared.job.Job.TheVariants.{Plan, Check, Show, Gen, Trial, Audit, Migrate, Act}
 
 -- the actions are explored in turn, or at random, which is also what no word means
 abbrev pub HasExplore : List Item → Bool → Type 0
@@ -15,16 +16,25 @@ HasExplore items sweep =
     ⊎ (((values (codes "--explore") items ≡ codes "uniform" ∷ []) × (sweep ≡ false))
     ⊎ ((values (codes "--explore") items ≡ codes "sweep" ∷ []) × (sweep ≡ true)))
 
+-- the numbers of a plan
+abbrev pub numbers_of : PlanWords → PlanNumbers
+numbers_of plan = record { beliefs = plan.beliefs; depth = plan.depth; stages = plan.stages; seed = plan.seed; workers = plan.workers }
+
+-- the items have the numbers of a plan on no further threads, each once
+pub record HavePlanNumbers (items : List Item) (numbers : PlanNumbers) : Type 0 where
+  pub beliefs : HasNumber items (codes "--beliefs") 1 4096 numbers.beliefs
+  pub depth : HasNumber items (codes "--depth") 1 4096 numbers.depth
+  pub stages : HasNumber items (codes "--stages") 1 1000 numbers.stages
+  pub seed : HasNumber items (codes "--seed") 0 (2 ^ 64 - 1) numbers.seed
+  pub workers : HasNumber items (codes "--workers") 0 0 numbers.workers
+
 -- the items are those of a plan on no further threads
 pub record IsPlan (items : List Item) (plan : PlanWords) : Type 0 where
   pub model : places items ≡ plan.model ∷ []
-  pub beliefs : HasNumber items (codes "--beliefs") 1 4096 plan.beliefs
-  pub depth : HasNumber items (codes "--depth") 1 4096 plan.depth
-  pub stages : HasNumber items (codes "--stages") 1 1000 plan.stages
-  pub seed : HasNumber items (codes "--seed") 0 (2 ^ 64 - 1) plan.seed
-  pub workers : HasNumber items (codes "--workers") 0 0 plan.workers
+  pub numbers : HavePlanNumbers items (numbers_of plan)
   pub prune : HasFlag items (codes "--prune") plan.prune
   pub explore : HasExplore items plan.sweep
+  pub sessions : HasFile items (codes "--sessions") plan.sessions
 
 -- the word of a command
 abbrev pub command_of : Job → List ℕ
@@ -33,17 +43,24 @@ command_of (Check model) = codes "check"
 command_of (Show model) = codes "show"
 command_of (Gen number) = codes "gen"
 command_of (Trial number) = codes "trial"
+command_of (Audit plan) = codes "audit"
+command_of (Migrate plan) = codes "migrate"
+command_of (Act plan script) = codes "act"
 
 -- the options and the flags of `plan`
 abbrev pub plan_names : Names
 plan_names = record {
-  options = codes "--beliefs" ∷ codes "--depth" ∷ codes "--stages" ∷ codes "--seed" ∷ codes "--workers" ∷ codes "--explore" ∷ [];
+  options = codes "--beliefs" ∷ codes "--depth" ∷ codes "--stages" ∷ codes "--seed" ∷ codes "--workers" ∷ codes "--explore" ∷ codes "--sessions" ∷ [];
   flags = codes "--prune" ∷ [];
 }
 
 -- the words are one word that stands by itself
 abbrev pub IsPlacedAlone : List (List ℕ) → List ℕ → Type 0
-IsPlacedAlone rest word = (rest ≡ word ∷ []) × (0 < length word) × (is_name word ≡ false)
+IsPlacedAlone rest word = (rest ≡ word ∷ []) × IsPlaced word
+
+-- the words are two words that stand by themselves
+abbrev pub ArePlacedAlone : List (List ℕ) → List ℕ → List ℕ → Type 0
+ArePlacedAlone rest first second = (rest ≡ first ∷ second ∷ []) × IsPlaced first × IsPlaced second
 
 -- the words are one number of 0 to 16
 abbrev pub IsNumberAlone : List (List ℕ) → ℕ → Type 0
@@ -63,6 +80,9 @@ AsksBehind rest (Check model) = IsPlacedAlone rest model
 AsksBehind rest (Show model) = IsPlacedAlone rest model
 AsksBehind rest (Gen number) = IsNumberAlone rest number
 AsksBehind rest (Trial number) = IsNumberAlone rest number
+AsksBehind rest (Audit plan) = IsPlacedAlone rest plan
+AsksBehind rest (Migrate plan) = IsPlacedAlone rest plan
+AsksBehind rest (Act plan script) = ArePlacedAlone rest plan script
 
 -- the words are those that are listed for a command, and ask for this
 pub record AsksByList (words : List (List ℕ)) (job : Job) : Type 0 where
@@ -76,16 +96,26 @@ pub record AsksByList (words : List (List ℕ)) (job : Job) : Type 0 where
 abbrev pub GivesNumber : List Row → List ℕ → ℕ → ℕ → ℕ → Type 0
 GivesNumber rows id least greatest n = (text : List ℕ) × (first_of id rows ≡ Some text) × IsNumber least greatest text n
 
+-- the id has the name of a file; or it has nothing, and names none
+abbrev pub GivesFile : List Row → List ℕ → Option (List ℕ) → Type 0
+GivesFile rows id None = first_of id rows ≡ None
+GivesFile rows id (Some file) = (first_of id rows ≡ Some file) × IsPlaced file
+
+-- the matches give the numbers of a plan on no further threads
+pub record GivePlanNumbers (rows : List Row) (numbers : PlanNumbers) : Type 0 where
+  pub beliefs : GivesNumber rows (codes "beliefs") 1 4096 numbers.beliefs
+  pub depth : GivesNumber rows (codes "depth") 1 4096 numbers.depth
+  pub stages : GivesNumber rows (codes "stages") 1 1000 numbers.stages
+  pub seed : GivesNumber rows (codes "seed") 0 (2 ^ 64 - 1) numbers.seed
+  pub workers : GivesNumber rows (codes "workers") 0 0 numbers.workers
+
 -- the matches are those of a plan on no further threads
 pub record GivesPlan (rows : List Row) (plan : PlanWords) : Type 0 where
   pub model : first_of (codes "model") rows ≡ Some plan.model
-  pub beliefs : GivesNumber rows (codes "beliefs") 1 4096 plan.beliefs
-  pub depth : GivesNumber rows (codes "depth") 1 4096 plan.depth
-  pub stages : GivesNumber rows (codes "stages") 1 1000 plan.stages
-  pub seed : GivesNumber rows (codes "seed") 0 (2 ^ 64 - 1) plan.seed
-  pub workers : GivesNumber rows (codes "workers") 0 0 plan.workers
+  pub numbers : GivePlanNumbers rows (numbers_of plan)
   pub prune : first_of (codes "prune") rows ≡ Some (cond plan.prune (codes "true") (codes "false"))
   pub explore : first_of (codes "explore") rows ≡ Some (cond plan.sweep (codes "sweep") (codes "uniform"))
+  pub sessions : GivesFile rows (codes "sessions") plan.sessions
 
 -- the matches of a command give this job
 abbrev pub Gives : List Row → Job → Type 0
@@ -94,6 +124,9 @@ Gives rows (Check model) = first_of (codes "model") rows ≡ Some model
 Gives rows (Show model) = first_of (codes "model") rows ≡ Some model
 Gives rows (Gen number) = GivesNumber rows (codes "number") 0 16 number
 Gives rows (Trial number) = GivesNumber rows (codes "number") 0 16 number
+Gives rows (Audit plan) = first_of (codes "plan") rows ≡ Some plan
+Gives rows (Migrate plan) = first_of (codes "plan") rows ≡ Some plan
+Gives rows (Act plan script) = (first_of (codes "plan") rows ≡ Some plan) × (first_of (codes "script") rows ≡ Some script)
 
 -- the parser finds no fault in the words, or its definition says that it takes them
 abbrev pub IsTaken : List (List ℕ) → Type 0
@@ -128,6 +161,9 @@ IsPossible (Check model) = Unit {0}
 IsPossible (Show model) = Unit {0}
 IsPossible (Gen number) = number ≤ 16
 IsPossible (Trial number) = number ≤ 16
+IsPossible (Audit plan) = Unit {0}
+IsPossible (Migrate plan) = Unit {0}
+IsPossible (Act plan script) = Unit {0}
 
 -- words ask for one job at most
 abbrev pub AskOnce : Type 0

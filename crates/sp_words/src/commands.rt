@@ -1,9 +1,9 @@
 //! The commands, as the parser of command lines reads them.
 
 ghost use Rattle.std.specs.Prelude.{◌≡◌, IfOk, IfErr, ◌⊎◌, map, string_bytes, false, []};
-ghost use Rattle.clap.specs.Words.{app_of, rule_of, with_rule, fault_of, kind_of, subcommand_rows_of, subcommand_of};
+ghost use Rattle.clap.specs.Words.{app_of, rule_of, with_rule, with_subcommand, fault_of, kind_of, subcommand_rows_of, subcommand_of};
 ghost use Rattle.clap.specs.declared.builder.Command.TheViews.{out-Command};
-ghost use Rattle.sp_words.specs.Apps.{place_rule, option_rule, place_app, numbers_app, plan_app, top_app, tool_app};
+ghost use Rattle.sp_words.specs.Apps.{place_rule, option_rule, place_app, numbers_app, choices_app, plan_app, act_app, top_app, with_place, tool_app};
 ghost use Rattle.sp_words.specs.Jobs.{IsTaken};
 
 use clap::error::ErrorKind;
@@ -60,9 +60,9 @@ fn numbers_command<'a>(alloc: Global) -> Result<Command<'a>, AllocError>
     with_option(alloc, with_seed, "workers")
 }
 
-/// The command `plan`.
-fn plan_command<'a>(alloc: Global) -> Result<Command<'a>, AllocError>
-    ensures app { IfOk result (λ c. app_of c ≡ plan_app) }
+/// The command `plan`, with how it chooses.
+fn choices_command<'a>(alloc: Global) -> Result<Command<'a>, AllocError>
+    ensures app { IfOk result (λ c. app_of c ≡ choices_app) }
     ensures local { IfOk result (λ c. (out-Command c).has_globals ≡ false) }
 {
     let prune = Arg::new(alloc, "prune")
@@ -74,6 +74,24 @@ fn plan_command<'a>(alloc: Global) -> Result<Command<'a>, AllocError>
     numbers_command(alloc)?.arg(prune)?.arg(explore)
 }
 
+/// The command `plan`.
+fn plan_command<'a>(alloc: Global) -> Result<Command<'a>, AllocError>
+    ensures app { IfOk result (λ c. app_of c ≡ plan_app) }
+    ensures local { IfOk result (λ c. (out-Command c).has_globals ≡ false) }
+{
+    let choices = choices_command(alloc)?;
+    choices.arg(Arg::new(alloc, "sessions").long("sessions"))
+}
+
+/// The command `act`.
+fn act_command<'a>(alloc: Global) -> Result<Command<'a>, AllocError>
+    ensures app { IfOk result (λ c. app_of c ≡ act_app) }
+    ensures local { IfOk result (λ c. (out-Command c).has_globals ≡ false) }
+{
+    let plan = place_command(alloc, "act", "plan")?;
+    plan.arg(place(alloc, "script"))
+}
+
 /// The words begin with the command, which has to be there.
 fn top_command<'a>(alloc: Global) -> Command<'a>
     ensures app { app_of result ≡ top_app }
@@ -83,20 +101,47 @@ fn top_command<'a>(alloc: Global) -> Command<'a>
         .subcommand_required(true)
 }
 
+/// The command with `plan` below it.
+fn with_plan_command<'a>(alloc: Global, command: Command<'a>) -> Result<Command<'a>, AllocError>
+    ensures { IfOk result (λ c. app_of c ≡ with_subcommand (app_of command.entry) plan_app.top) }
+{
+    let plan = plan_command(alloc)?;
+    command.subcommand(plan)
+}
+
+/// The command with one more below it, which has one word by itself.
+fn with_place_command<'a>(
+    alloc: Global,
+    command: Command<'a>,
+    name: &'a str,
+    id: &'a str,
+) -> Result<Command<'a>, AllocError>
+    ensures { IfOk result (λ c. app_of c ≡ with_place (app_of command.entry) name.entry.now id.entry.now) }
+{
+    let place = place_command(alloc, name, id)?;
+    command.subcommand(place)
+}
+
+/// The command with `act` below it.
+fn with_act_command<'a>(alloc: Global, command: Command<'a>) -> Result<Command<'a>, AllocError>
+    ensures { IfOk result (λ c. app_of c ≡ with_subcommand (app_of command.entry) act_app.top) }
+{
+    let act = act_command(alloc)?;
+    command.subcommand(act)
+}
+
 /// The whole program.
 fn tool_command<'a>(alloc: Global) -> Result<Command<'a>, AllocError>
     ensures { IfOk result (λ c. app_of c ≡ tool_app) }
 {
-    let plan = plan_command(alloc)?;
-    let with_plan = top_command(alloc).subcommand(plan)?;
-    let check = place_command(alloc, "check", "model")?;
-    let with_check = with_plan.subcommand(check)?;
-    let show = place_command(alloc, "show", "model")?;
-    let with_show = with_check.subcommand(show)?;
-    let generate = place_command(alloc, "gen", "number")?;
-    let with_generate = with_show.subcommand(generate)?;
-    let trial = place_command(alloc, "trial", "number")?;
-    with_generate.subcommand(trial)
+    let with_plan = with_plan_command(alloc, top_command(alloc))?;
+    let with_check = with_place_command(alloc, with_plan, "check", "model")?;
+    let with_show = with_place_command(alloc, with_check, "show", "model")?;
+    let with_generate = with_place_command(alloc, with_show, "gen", "number")?;
+    let with_trial = with_place_command(alloc, with_generate, "trial", "number")?;
+    let with_audit = with_place_command(alloc, with_trial, "audit", "plan")?;
+    let with_migrate = with_place_command(alloc, with_audit, "migrate", "plan")?;
+    with_act_command(alloc, with_migrate)
 }
 
 /// What the parser makes of the words.

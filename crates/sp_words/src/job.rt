@@ -1,6 +1,6 @@
 //! What the words of a command line ask for.
 
-ghost use Rattle.std.specs.Prelude.{◌≡◌, IfOk};
+ghost use Rattle.std.specs.Prelude.{◌≡◌, IfOk, option_map};
 
 use std::alloc::{AllocError, Global};
 use std::marker::Model;
@@ -36,6 +36,29 @@ impl Name {
     }
 }
 
+/// The name of this text, if there is one.
+pub fn name_of(alloc: Global, text: Option<&str>) -> Result<Option<Name>, AllocError>
+    ensures { IfOk result (λ name. name ≡ option_map (λ s. s.now) text.entry) }
+{
+    match text {
+        None => Ok(None),
+        Some(text) => {
+            let name = Name::new(alloc, text)?;
+            Ok(Some(name))
+        }
+    }
+}
+
+/// The numbers that `plan` is asked for, each as in [`PlanWords`].
+#[derive(Clone, Copy)]
+pub struct PlanNumbers {
+    pub beliefs: u64,
+    pub depth: u64,
+    pub stages: u64,
+    pub seed: u64,
+    pub workers: u64,
+}
+
 /// What `plan` is asked for.
 #[derive(Drop)]
 pub struct PlanWords {
@@ -55,6 +78,8 @@ pub struct PlanWords {
     pub prune: bool,
     /// Whether the sampled beliefs explore the actions in turn, and not at random.
     pub sweep: bool,
+    /// The name of the script of acting sessions, where there is one.
+    pub sessions: Option<Name>,
 }
 
 /// A command with what its words say.
@@ -70,6 +95,12 @@ pub enum Job {
     Gen { number: u64 },
     /// Plan for the generated model of a number, and write a summary.
     Trial { number: u64 },
+    /// Judge a plan file.
+    Audit { plan: Name },
+    /// Write a plan file in its newest version.
+    Migrate { plan: Name },
+    /// Serve a script of acting sessions on the last edition of a plan file.
+    Act { plan: Name, script: Name },
 }
 
 /// Why words ask for nothing.

@@ -1,8 +1,8 @@
 //! Reads the words behind a command into pieces.
 
-ghost use Rattle.std.specs.Prelude.{◌≡◌, ℕ, List, [], ◌∷◌, Option, Some, None, map, IfOk, MatchOption, string_bytes, bytes_eq, Err, length, nat_eq};
+ghost use Rattle.std.specs.Prelude.{◌≡◌, ℕ, List, [], ◌∷◌, Option, Some, None, map, IfOk, MatchOption, string_bytes, bytes_eq, Err, length, nat_eq, option_map};
 ghost use Rattle.std.specs.List.{list_any};
-ghost use Rattle.sp_words.specs.Items.{is_name, items_on, places, values, times_flagged, IsNumber, HasNumber};
+ghost use Rattle.sp_words.specs.Items.{is_name, items_on, places, values, times_flagged, IsPlaced, IsNumber, HasNumber, HasFile};
 ghost use Rattle.sp_words.specs.Pieces.{item_of, names_of};
 
 use crate::job::WordsError;
@@ -21,6 +21,17 @@ pub fn is_name(word: &str) -> bool
     ensures { result ≡ is_name word.now }
 {
     word.as_bytes().first() == Some(&b'-')
+}
+
+/// The word, if it can stand by itself.
+pub fn placed(word: &str) -> Option<&str>
+    ensures { MatchOption result (¬ (IsPlaced word.now)) (λ s. (s.now ≡ word.now) × IsPlaced word.now) }
+{
+    if word.is_empty() || is_name(word) {
+        None
+    } else {
+        Some(word)
+    }
 }
 
 /// Whether the word is one of these names.
@@ -141,6 +152,18 @@ pub fn only_value<'a>(pieces: &[Piece<'a>], option: &str) -> Option<&'a str>
         }
     }
     found
+}
+
+/// The file that an option names, or that it names none; nothing where it says something else.
+pub fn file_of<'a>(pieces: &[Piece<'a>], option: &str) -> Option<Option<&'a str>>
+    ensures { MatchOption result ((file : Option (List ℕ)) → ¬ (HasFile (map item_of pieces.now) option.now file)) (λ file. HasFile (map item_of pieces.now) option.now (option_map (λ s. s.now) file)) }
+{
+    if lacks(pieces, option) {
+        return Some(None);
+    }
+    let word = only_value(pieces, option)?;
+    let file = placed(word)?;
+    Some(Some(file))
 }
 
 /// The number of an option between these two, if it is there once with one.

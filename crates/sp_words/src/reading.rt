@@ -2,14 +2,16 @@
 
 ghost use Rattle.std.specs.Prelude.{◌≡◌, ◌≢◌, ℕ, List, ◌∷◌, codes, map, cond, IfOk, MatchOption, string_bytes, Err, Bool};
 ghost use Rattle.sp_words.specs.Pieces.{item_of};
-ghost use Rattle.sp_words.specs.Jobs.{Asks, AsksByList, AsksBehind, IsPlan, HasExplore, IsPlacedAlone, IsNumberAlone, IsPossible, command_of};
+ghost use Rattle.sp_words.specs.Jobs.{Asks, AsksByList, AsksBehind, IsPlan, HavePlanNumbers, HasExplore, IsPlacedAlone, ArePlacedAlone, IsNumberAlone, IsPossible, command_of};
 ghost use Rattle.sp_words.specs.Items.{HasFlag};
 ghost use Rattle.sp_words.specs.declared.job.Job.{Job};
+ghost use Rattle.sp_words.specs.declared.job.PlanNumbers.{PlanNumbers};
 ghost use Rattle.sp_words.specs.declared.job.PlanWords.{PlanWords};
 
-use crate::job::{Job, Name, PlanWords, WordsError};
+use crate::job::{Job, Name, PlanNumbers, PlanWords, WordsError, name_of};
 use crate::pieces::{
-    Piece, flag_count, is_name, lacks, number_in, number_of, only_place, only_value, pieces_of,
+    Piece, file_of, flag_count, lacks, number_in, number_of, only_place, only_value, pieces_of,
+    placed,
 };
 use crate::taken::read_by_parser;
 use std::alloc::Global;
@@ -47,6 +49,15 @@ fn read_listed(alloc: Global, words: &[String]) -> Result<Job, WordsError>
     if let Some(rest) = words_behind(words, "trial") {
         return trial(rest);
     }
+    if let Some(rest) = words_behind(words, "audit") {
+        return audit(alloc, rest);
+    }
+    if let Some(rest) = words_behind(words, "migrate") {
+        return migrate(alloc, rest);
+    }
+    if let Some(rest) = words_behind(words, "act") {
+        return act(alloc, rest);
+    }
     Err(WordsError::Usage)
 }
 
@@ -74,6 +85,7 @@ fn plan(alloc: Global, words: &[String]) -> Result<Job, WordsError>
         "--seed",
         "--workers",
         "--explore",
+        "--sessions",
     ];
     let pieces = match pieces_of(alloc, words, &options, &["--prune"]) {
         Ok(pieces) => pieces,
@@ -93,19 +105,7 @@ fn plan_in(alloc: Global, pieces: &[Piece<'_>]) -> Result<PlanWords, WordsError>
     let Some(model) = only_place(pieces) else {
         return Err(WordsError::Usage);
     };
-    let Some(beliefs) = number_of(pieces, "--beliefs", 1, 4096) else {
-        return Err(WordsError::Usage);
-    };
-    let Some(depth) = number_of(pieces, "--depth", 1, 4096) else {
-        return Err(WordsError::Usage);
-    };
-    let Some(stages) = number_of(pieces, "--stages", 1, 1000) else {
-        return Err(WordsError::Usage);
-    };
-    let Some(seed) = number_of(pieces, "--seed", 0, u64::MAX) else {
-        return Err(WordsError::Usage);
-    };
-    let Some(workers) = number_of(pieces, "--workers", 0, 0) else {
+    let Some(numbers) = numbers_in(pieces) else {
         return Err(WordsError::Usage);
     };
     let Some(prune) = flag_of(pieces, "--prune") else {
@@ -114,16 +114,39 @@ fn plan_in(alloc: Global, pieces: &[Piece<'_>]) -> Result<PlanWords, WordsError>
     let Some(sweep) = explore_of(pieces) else {
         return Err(WordsError::Usage);
     };
+    let Some(sessions) = file_of(pieces, "--sessions") else {
+        return Err(WordsError::Usage);
+    };
+    let sessions = name_of(alloc, sessions)?;
     let model = Name::new(alloc, model)?;
     Ok(PlanWords {
         model,
+        beliefs: numbers.beliefs,
+        depth: numbers.depth,
+        stages: numbers.stages,
+        seed: numbers.seed,
+        workers: numbers.workers,
+        prune,
+        sweep,
+        sessions,
+    })
+}
+
+/// The numbers of a plan that pieces have.
+fn numbers_in(pieces: &[Piece<'_>]) -> Option<PlanNumbers>
+    ensures { MatchOption result ((numbers : PlanNumbers) → ¬ (HavePlanNumbers (map item_of pieces.now) numbers)) (λ numbers. HavePlanNumbers (map item_of pieces.now) numbers) }
+{
+    let beliefs = number_of(pieces, "--beliefs", 1, 4096)?;
+    let depth = number_of(pieces, "--depth", 1, 4096)?;
+    let stages = number_of(pieces, "--stages", 1, 1000)?;
+    let seed = number_of(pieces, "--seed", 0, u64::MAX)?;
+    let workers = number_of(pieces, "--workers", 0, 0)?;
+    Some(PlanNumbers {
         beliefs,
         depth,
         stages,
         seed,
         workers,
-        prune,
-        sweep,
     })
 }
 
@@ -166,26 +189,34 @@ fn place_behind<'a>(words: &'a [String]) -> Option<&'a str>
     ensures { MatchOption result ((word : List ℕ) → ¬ (IsPlacedAlone (map string_bytes words.now) word)) (λ word. IsPlacedAlone (map string_bytes words.now) word.now) }
 {
     match words {
-        [word] => {
-            if word.is_empty() || is_name(word.as_str()) {
-                None
-            } else {
-                Some(word.as_str())
-            }
+        [word] => placed(word.as_str()),
+        _ => None,
+    }
+}
+
+/// The two words by themselves behind a command without options.
+fn places_behind<'a>(words: &'a [String]) -> Option<(&'a str, &'a str)>
+    ensures { MatchOption result ((first second : List ℕ) → ¬ (ArePlacedAlone (map string_bytes words.now) first second)) (λ pair. ArePlacedAlone (map string_bytes words.now) pair.0.now pair.1.now) }
+{
+    match words {
+        [first, second] => {
+            let first = placed(first.as_str())?;
+            let second = placed(second.as_str())?;
+            Some((first, second))
         }
         _ => None,
     }
 }
 
-/// The name of the model file behind a command without options.
-fn model_behind(alloc: Global, words: &[String]) -> Result<Name, WordsError>
-    ensures asks { IfOk result (λ model. IsPlacedAlone (map string_bytes words.now) model) }
-    ensures usage { result ≡ Err WordsError.Usage → (model : List ℕ) → ¬ (IsPlacedAlone (map string_bytes words.now) model) }
+/// The name of the one file behind a command without options.
+fn file_behind(alloc: Global, words: &[String]) -> Result<Name, WordsError>
+    ensures asks { IfOk result (λ file. IsPlacedAlone (map string_bytes words.now) file) }
+    ensures usage { result ≡ Err WordsError.Usage → (file : List ℕ) → ¬ (IsPlacedAlone (map string_bytes words.now) file) }
 {
     match place_behind(words) {
-        Some(model) => {
-            let model = Name::new(alloc, model)?;
-            Ok(model)
+        Some(file) => {
+            let file = Name::new(alloc, file)?;
+            Ok(file)
         }
         None => Err(WordsError::Usage),
     }
@@ -196,7 +227,7 @@ fn check(alloc: Global, words: &[String]) -> Result<Job, WordsError>
     ensures asks { IfOk result (λ job. (command_of job ≡ codes "check") × AsksBehind (map string_bytes words.now) job) }
     ensures usage { result ≡ Err WordsError.Usage → (job : Job) → command_of job ≡ codes "check" → ¬ (AsksBehind (map string_bytes words.now) job) }
 {
-    match model_behind(alloc, words) {
+    match file_behind(alloc, words) {
         Ok(model) => Ok(Job::Check { model }),
         Err(error) => Err(error),
     }
@@ -207,7 +238,7 @@ fn show(alloc: Global, words: &[String]) -> Result<Job, WordsError>
     ensures asks { IfOk result (λ job. (command_of job ≡ codes "show") × AsksBehind (map string_bytes words.now) job) }
     ensures usage { result ≡ Err WordsError.Usage → (job : Job) → command_of job ≡ codes "show" → ¬ (AsksBehind (map string_bytes words.now) job) }
 {
-    match model_behind(alloc, words) {
+    match file_behind(alloc, words) {
         Ok(model) => Ok(Job::Show { model }),
         Err(error) => Err(error),
     }
@@ -243,4 +274,39 @@ fn trial(words: &[String]) -> Result<Job, WordsError>
         Some(number) => Ok(Job::Trial { number }),
         None => Err(WordsError::Usage),
     }
+}
+
+/// The judging of a plan file that the words behind the command ask for.
+fn audit(alloc: Global, words: &[String]) -> Result<Job, WordsError>
+    ensures asks { IfOk result (λ job. (command_of job ≡ codes "audit") × AsksBehind (map string_bytes words.now) job) }
+    ensures usage { result ≡ Err WordsError.Usage → (job : Job) → command_of job ≡ codes "audit" → ¬ (AsksBehind (map string_bytes words.now) job) }
+{
+    match file_behind(alloc, words) {
+        Ok(plan) => Ok(Job::Audit { plan }),
+        Err(error) => Err(error),
+    }
+}
+
+/// The plan file in its newest version that the words behind the command ask for.
+fn migrate(alloc: Global, words: &[String]) -> Result<Job, WordsError>
+    ensures asks { IfOk result (λ job. (command_of job ≡ codes "migrate") × AsksBehind (map string_bytes words.now) job) }
+    ensures usage { result ≡ Err WordsError.Usage → (job : Job) → command_of job ≡ codes "migrate" → ¬ (AsksBehind (map string_bytes words.now) job) }
+{
+    match file_behind(alloc, words) {
+        Ok(plan) => Ok(Job::Migrate { plan }),
+        Err(error) => Err(error),
+    }
+}
+
+/// The serving of a script on a plan file that the words behind the command ask for.
+fn act(alloc: Global, words: &[String]) -> Result<Job, WordsError>
+    ensures asks { IfOk result (λ job. (command_of job ≡ codes "act") × AsksBehind (map string_bytes words.now) job) }
+    ensures usage { result ≡ Err WordsError.Usage → (job : Job) → command_of job ≡ codes "act" → ¬ (AsksBehind (map string_bytes words.now) job) }
+{
+    let Some((plan, script)) = places_behind(words) else {
+        return Err(WordsError::Usage);
+    };
+    let plan = Name::new(alloc, plan)?;
+    let script = Name::new(alloc, script)?;
+    Ok(Job::Act { plan, script })
 }
