@@ -19,7 +19,7 @@ use Rattle.sp_core.specs.Books.{BookParts, IsBook, state_of}
 use Rattle.sp_core.specs.Marks.{marks_of}
 use Rattle.sp_core.specs.Opening.{first_parts}
 use Rattle.sp_sampler.specs.Words.{word_at, seeded}
-use Rattle.sp_planner.specs.Laws.{FinishedBooksArePlanned}
+use Rattle.sp_planner.specs.Laws.{FinishedBooksArePlanned, FinishedBooksAreTrusted}
 use Rattle.sp_planner.specs.Planned.{next_seed, picking_words, IsTrusted, IsPlanned}
 use Rattle.sp_planner.specs.Turns.{IsRun}
 use Rattle.sp_planner.proofs.SameMarks.{one_thread_same}
@@ -79,3 +79,17 @@ run_done pruning b d is run =
     ap (λ (u : TaskParts). (replay (task_of u) (opening (task_of u)) d.history).done) run.task
     ∙ ap (λ (es : List Event). (replay (task_of t) (opening (task_of t)) es).done) run.history
     ∙ legal.1
+
+-- a finished book, by whomever it was planned
+pub finished_trusted : FinishedBooksAreTrusted
+finished_trusted b is done =
+    let t = task_of b.task in
+    let lawful = problem_lawful b.task.model is.task.model in
+    let some : 0 < b.task.options.beliefs = let least = is.task.some_beliefs in omega (arith, least) in
+    record {
+      legal = (is.history, done);
+      prompt = is.prompt;
+      sound = run_is_sound t lawful some b.history is.history;
+      close = all_close t lawful some (opening t) b.history (sound_opening t) (tidy_opening t) is.history;
+      published = (stages_published t b.history is.history is.prompt).1 done;
+    }

@@ -1,6 +1,7 @@
 -- What a turn does to a book.
 use Rattle.std.specs.Prelude.{◌≡◌, ℕ, ◌+◌, ◌-◌, ◌<◌, ◌++◌, [], ◌∷◌, List, length, map, replicate, Bool, cond, false, MatchBool}
 use Rattle.std.specs.List.{range_with_len}
+use mathlib.Core.List.{IsPrefix}
 use Rattle.rand_core.specs.Stream.{Stream}
 use Rattle.sp_theory.specs.Book.{Task, Book, Event, after_event}
 use Rattle.sp_theory.specs.OneThread.{Marks, settled_at, all_improved, due_events, turn, marks_after, pruning_events, one_thread}
@@ -14,6 +15,8 @@ pub record IsLater (b d : BookParts) : Type 0 where
   pub task : d.task ≡ b.task
   pub more : List Event
   pub history : d.history ≡ b.history ++ more
+  -- its editions, and more of them if any
+  pub editions : IsPrefix b.editions d.editions
 
 -- ---- the backup
 -- the book right after the settle at a belief on its latest edition

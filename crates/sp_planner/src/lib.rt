@@ -10,7 +10,7 @@ mod summary;
 mod values;
 
 pub use between::{BetweenTurns, Idle};
-pub use laws::finished_books_are_planned;
+pub use laws::{finished_books_are_planned, finished_books_are_trusted};
 pub use planning::{finish, open_book, plan, plan_book};
 pub use summary::{Summary, summarize};
 pub use values::opening_values;

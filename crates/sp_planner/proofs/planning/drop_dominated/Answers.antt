@@ -6,6 +6,7 @@ use Rattle.sp_value.specs.Editions.{EditionParts, IsEdition, members_in}
 use Rattle.sp_planner.specs.Turns.{IsPruning}
 use Rattle.sp_planner.proofs.Backing.{latest_ours}
 use Rattle.sp_planner.proofs.Pruning.{may_go, is_pruning}
+use Rattle.sp_planner.proofs.Later.{later_pruned}
 use Rattle.sp_planner.proofs.planning.drop_dominated.Goals as goal
 
 pub prune_ours-requires-clause-ours : goal.prune_ours-requires-clause-ours
@@ -23,3 +24,6 @@ returns-in-Ok-clause-pruned c =
     c.in_ok-pairs.pairs
     (c.in_ok-pairs.ensures ∙ ap (λ (e : EditionParts). dominated (problem e.task.model) (members_in e)) c.deref-2.ensures)
     c.in-Ok.ensures.ok)
+
+pub returns-in-Ok-clause-later : goal.returns-in-Ok-clause-later
+returns-in-Ok-clause-later c = later_pruned _ (arc_value c.in_ok-base.base) c.in_ok-pairs.pairs _ _ c.in-Ok.ensures.ok
