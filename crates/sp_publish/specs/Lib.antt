@@ -3,3 +3,4 @@ pub mod Logs
 pub mod Rules
 pub mod Snapshot
 pub mod Laws
+pub mod Names

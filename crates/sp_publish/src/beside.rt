@@ -5,6 +5,7 @@ ghost use Rattle.sp_publish.specs.Published.{GoesOn};
 
 use crate::notice::Notice;
 use sp_dd::NoMemory;
+use std::marker::Brand;
 
 /// Which list a value belongs to, for types that say so: the number of the list and its edition 0. It has no calls.
 pub trait ListName {
@@ -14,6 +15,15 @@ pub trait ListName {
     ghost list: { Book };
 
     ghost first: { EditionParts };
+}
+
+/// A name that the proof of a call picks.
+impl ListName for Brand {
+    ghost use Rattle.sp_publish.specs.Names.{no_edition};
+
+    ghost list = { record { number = 0; log_name = 0; cells_name = 0 } };
+
+    ghost first = { no_edition };
 }
 
 /// Work in steps that is done beside the planners.

@@ -80,8 +80,8 @@ impl Notice {
         })
     }
 
-    /// Whether the other tells more of the same list.
-    pub(crate) fn is_before(&self, other: &Notice) -> bool
+    /// Whether the other tells more of the same list. Takes no memory.
+    pub fn is_before(&self, other: &Notice) -> bool
         requires { other.now.list ≡ self.now.list }
         ensures { MatchBool result (GoesOn self.now other.now) (GoesOn other.now self.now) }
     {
