@@ -84,3 +84,7 @@ text_from_options c = options_line c.options ++ (10 ∷ text_from_moves c)
 -- the whole text
 abbrev pub plan_text : Contents → List ℕ
 plan_text c = head_text (is_some c.values) ++ (c.model ++ (codes "endmodel\n" ++ text_from_options c))
+
+-- the lines of logs by themselves, as they end a plan file
+abbrev pub sessions_text : List Log → List ℕ
+sessions_text logs = logs_section logs ++ codes "done\n"

@@ -29,7 +29,7 @@ use Rattle.sp_planfile.specs.PlanText.{plan_text}
 use Rattle.sp_planning.specs.PlanFiles.{IsPlanFileFor, values_after}
 use Rattle.sp_planning.proofs.Form.{in_form}
 
-total_some : (p : Parts) → IsModel p → (w : Func) → AreWeights w → w.shape ≡ shape_of p → 0 < total_weight (problem p) (weights_of p w)
+pub total_some : (p : Parts) → IsModel p → (w : Func) → AreWeights w → w.shape ≡ shape_of p → 0 < total_weight (problem p) (weights_of p w)
 total_some p known w are shape =
     let above = are.above in
     let same = has-total p known w (weights_of p w) (weights_has p known w (shape ∙ sym known.scope) are) in

@@ -4,3 +4,5 @@ pub mod Ranges
 pub mod Parts
 pub mod Form
 pub mod Finished
+pub mod ScriptForm
+pub mod Scripted

@@ -1,9 +1,19 @@
--- The law of the texts of models, as the function of this crate states it.
+-- The laws of planned files, as the functions of this crate state them.
+use Rattle.std.specs.Prelude.{ℕ, List, []}
 use Rattle.sp_model.specs.declared.parts.Parts.{Parts}
 use Rattle.sp_model.specs.Kept.{IsModel}
+use Rattle.sp_value.specs.declared.tasks.Options.{Options}
+use Rattle.sp_choose.specs.Machines.{Machine}
 use Rattle.sp_planfile.specs.ModelText.{model_bytes}
 use Rattle.sp_planfile.specs.Form.{AreModelLines}
+use Rattle.sp_planning.specs.PlanFiles.{IsPlanFileFor}
+use Rattle.sp_planning.specs.ScriptFiles.{IsScriptFileFor}
 
 -- the canonical text of a model has whole lines, and none of them is `endmodel`
 abbrev pub ModelTextsHaveLines : Type 0
 ModelTextsHaveLines = (p : Parts) → IsModel p → AreModelLines (model_bytes p)
+
+-- a script without commands changes nothing in the plan file
+abbrev pub EmptyScriptsChangeNothing : Type 0
+EmptyScriptsChangeNothing =
+    (p : Parts) (o : Options) (chooser : Machine) (text : List ℕ) → IsScriptFileFor p o chooser [] text → IsPlanFileFor p o chooser text

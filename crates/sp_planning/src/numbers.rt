@@ -37,7 +37,7 @@ fn read_event(event: &Event)
 }
 
 /// Reads numbers.
-fn read_list(_numbers: &[u64])
+pub(crate) fn read_list(_numbers: &[u64])
     ensures { AllByRecursion IsSmall _numbers.now }
 {}
 

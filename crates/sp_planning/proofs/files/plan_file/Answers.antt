@@ -1,12 +1,6 @@
-use Rattle.std.proofs.Common.{◌≡◌, ◌∙◌, ap, sym, subst, rules, arith, length}
+use Rattle.std.proofs.Common.{rules, arith}
 use Rattle.std.specs.Arc.{arc_value}
-use Rattle.sp_dd.specs.Func.{Func}
-use Rattle.sp_model.specs.Weights.{AreWeights}
-use Rattle.sp_model.specs.Problem.{shape_of}
 use Rattle.sp_model.proofs.Bounds.{least_return_from, least_return_to, top_to}
-use Rattle.sp_value.specs.Events.{events_of}
-use Rattle.sp_value.specs.Tasks.{TaskParts, sampled_func}
-use Rattle.sp_planfile.specs.RunText.{AreSmall}
 use Rattle.sp_planning.proofs.Finished.{file_is}
 use Rattle.sp_planning.proofs.files.plan_file.Goals as goal
 

@@ -1,0 +1,5 @@
+pub mod Leading
+pub mod Chain
+pub mod Finishing
+pub mod Served
+pub mod Inside
