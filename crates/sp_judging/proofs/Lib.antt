@@ -3,3 +3,4 @@ pub mod SameFiles
 pub mod FormLemmas
 pub mod Migrated
 pub mod Judgements
+pub mod ScriptLemmas

@@ -1,21 +1,15 @@
 -- Legal files are neither illegal nor at fault, and what is migrated is legal.
-use Rattle.std.proofs.Common.{◌≡◌, ◌∙◌, sym, ap, refl, subst, arith, ℕ, ◌<◌, List, length, get_or, Option, Some, None}
+use Rattle.std.proofs.Common.{◌≡◌, ◌∙◌, sym, ap, refl, subst, ℕ, List, length, get_or, Option, Some, None}
 use Rattle.std.specs.Prelude.{ℤ, pos}
-use Rattle.std.proofs.lemmas.Int.{ints}
 use Rattle.std.proofs.lemmas.List.{length-map}
-use Rattle.sp_dd.specs.Func.{Func}
 use Rattle.sp_theory.specs.Points.{count_of}
-use Rattle.sp_theory.specs.Scaling.{total_weight}
 use Rattle.sp_theory.specs.Book.{opening, editions}
 use Rattle.sp_theory.specs.Runs.{replay}
 use Rattle.sp_theory.specs.Laws.{IsSound}
-use Rattle.sp_model.specs.declared.parts.Parts.{Parts}
 use Rattle.sp_model.specs.Problem.{problem, sizes_of, shape_of}
 use Rattle.sp_model.specs.Kept.{IsModel}
 use Rattle.sp_model.specs.Weights.{AreWeights}
-use Rattle.sp_model.specs.Links.{weights_of}
 use Rattle.sp_model.proofs.Bounds.{least_return_from, least_return_to, top_to}
-use Rattle.sp_belief.proofs.WeightLemmas.{has-total, weights_has}
 use Rattle.sp_value.specs.declared.events.Event.{Event}
 use Rattle.sp_value.specs.Events.{events_of}
 use Rattle.sp_value.specs.Tasks.{TaskParts, task_of, weights_at, sampled_func}
@@ -27,6 +21,7 @@ use Rattle.sp_planfile.specs.Contents.{contents_of}
 use Rattle.sp_planfile.specs.PlanText.{plan_text}
 use Rattle.sp_planfile.specs.Form.{IsInForm, AreValues}
 use Rattle.sp_planning.proofs.Ranges.{values_within}
+use Rattle.sp_planning.proofs.Finished.{total_some}
 use Rattle.sp_filed.proofs.FaultLaws.{plan_files_are_not_at_fault}
 use Rattle.sp_audit.specs.Clauses.{clause_of}
 use Rattle.sp_audit.specs.Verdicts.{AreLegal, values_after}
@@ -63,12 +58,6 @@ pub legal_files_are_sound : LegalFilesAreSound
 legal_files_are_sound source p = legal_runs_keep_their_word p.task p.legal.file.task (events_of p.events) (logs_of p.transcript) p.legal.legal
 
 -- ---- migrated files
-total_some : (p : Parts) → IsModel p → (w : Func) → AreWeights w → w.shape ≡ shape_of p → 0 < total_weight (problem p) (weights_of p w)
-total_some p known w are shape =
-    let above = are.above in
-    let same = has-total p known w (weights_of p w) (weights_has p known w (shape ∙ sym known.scope) are) in
-    omega (arith, ints, above, same)
-
 module _ (source : List ℕ) (t : TaskParts) (events : List Event) (values : Option (List ℤ)) (transcript : List SessionLog) (legal : IsLegalFile source t events values transcript)
     (count : IsSmall (length (values_after t (events_of events)))) (weights : AreWeights (sampled_func t 0)) (shape : (sampled_func t 0).shape ≡ shape_of t.model) where
   known : IsModel t.model

@@ -5,6 +5,13 @@ use Rattle.sp_theory.specs.Runs.{replay}
 use Rattle.sp_theory.specs.Laws.{IsSound, AllClose}
 use Rattle.sp_value.specs.Events.{events_of}
 use Rattle.sp_value.specs.Tasks.{task_of}
+use Rattle.sp_model.specs.declared.parts.Parts.{Parts}
+use Rattle.sp_value.specs.declared.tasks.Options.{Options}
+use Rattle.sp_choose.specs.Machines.{Machine}
+use Rattle.sp_script.specs.declared.command.Command.{Command}
+use Rattle.sp_reader.specs.Sources.{Reads}
+use Rattle.sp_planfile.specs.ModelText.{model_bytes}
+use Rattle.sp_planning.specs.ScriptFiles.{IsScriptFileFor, scripted_contents}
 use Rattle.sp_filed.specs.declared.error.PlanKind.{PlanKind}
 use Rattle.sp_filed.specs.Files.{IsFault}
 use Rattle.sp_audit.specs.Verdicts.{values_after}
@@ -31,3 +38,18 @@ MigratedFilesAreLegal = (source text : List ℕ) (m : IsMigratedText source text
 -- a file that has values is migrated to itself
 abbrev pub FilesWithValuesStay : Type 0
 FilesWithValuesStay = (source text : List ℕ) (m : IsMigratedText source text) (values : List ℤ) → m.plan.values ≡ Some values → text ≡ source
+
+-- what is planned while a script is served is a legal file whose values are those of its editions
+abbrev pub ScriptFilesAreLegal : Type 0
+ScriptFilesAreLegal =
+    (p : Parts) (o : Options) (chooser : Machine) (cs : List Command) (text : List ℕ) (f : IsScriptFileFor p o chooser cs text)
+    → Reads (model_bytes p) p → IsLegalFile text f.task f.events (Some (values_after f.task (events_of f.events))) f.transcript
+
+-- such a text is that of one model, one list of options and one run with its logs only
+abbrev pub OneScriptFile : Type 0
+OneScriptFile =
+    (p q : Parts) (o w : Options) (chooser other : Machine) (cs ds : List Command) (text : List ℕ)
+    → (one : IsScriptFileFor p o chooser cs text) (two : IsScriptFileFor q w other ds text)
+    → Reads (model_bytes p) p → Reads (model_bytes q) q
+    → (p ≡ q) × (o ≡ w)
+    × (scripted_contents p one.task one.events one.transcript ≡ scripted_contents q two.task two.events two.transcript)

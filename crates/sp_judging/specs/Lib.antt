@@ -1,3 +1,4 @@
 pub mod Notes
 pub mod PlanFiles
+pub mod ActTexts
 pub mod Laws

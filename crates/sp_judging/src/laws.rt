@@ -1,6 +1,6 @@
 //! Laws of judged plan files. Each function does nothing: its contract is the law.
 
-ghost use Rattle.sp_judging.specs.Laws.{LegalFilesAreNotRefused, LegalFilesAreSound, MigratedFilesAreLegal, FilesWithValuesStay};
+ghost use Rattle.sp_judging.specs.Laws.{LegalFilesAreNotRefused, LegalFilesAreSound, MigratedFilesAreLegal, FilesWithValuesStay, OneScriptFile, ScriptFilesAreLegal};
 
 /// Of the same bytes one thing holds at most: they are a legal plan file with true values, they are a plan file that isn't, or they are
 /// at fault.
@@ -22,4 +22,14 @@ pub fn migrated_files_are_legal()
 /// A legal file of version 2 is migrated to itself.
 pub fn files_with_values_stay()
     ensures { FilesWithValuesStay }
+{}
+
+/// What is planned while a script is served is a legal file with true values, where the canonical text of its model means that model.
+pub fn script_files_are_legal()
+    ensures { ScriptFilesAreLegal }
+{}
+
+/// What is planned while a script is served is the file of one model, of one list of options and of one run with its logs only.
+pub fn one_script_file()
+    ensures { OneScriptFile }
 {}
