@@ -1,0 +1,5 @@
+pub mod DeskLemmas
+pub mod PlaceLemmas
+pub mod AskedLemmas
+pub mod RunLemmas
+pub mod Legality
