@@ -39,11 +39,26 @@ fn text_of(alloc: Global, job: &Job) -> Result<String, AllocError> {
         Job::Show { model } => format!(in alloc; "show {}", model.as_str()),
         Job::Gen { number } => format!(in alloc; "gen {number}"),
         Job::Trial { number } => format!(in alloc; "trial {number}"),
+        Job::Audit { plan } => format!(in alloc; "audit {}", plan.as_str()),
+        Job::Migrate { plan } => format!(in alloc; "migrate {}", plan.as_str()),
+        Job::Act { plan, script } => {
+            format!(in alloc; "act {} {}", plan.as_str(), script.as_str())
+        }
     }
 }
 
 /// A plan in words.
 fn plan_text(alloc: Global, plan: &PlanWords) -> Result<String, AllocError> {
+    let mut text = numbers_text(alloc, plan)?;
+    if let Some(script) = &plan.sessions {
+        text.push_str(" sessions ")?;
+        text.push_str(script.as_str())?;
+    }
+    Ok(text)
+}
+
+/// A plan in words, without its script.
+fn numbers_text(alloc: Global, plan: &PlanWords) -> Result<String, AllocError> {
     format!(in alloc;
         "plan {} beliefs {} depth {} stages {} seed {} workers {} prune {} sweep {}",
         plan.model.as_str(),

@@ -1,4 +1,8 @@
+pub mod Endings
 pub mod TableLemmas
+pub mod SecondFiles
 pub mod LineLemmas
 pub mod Pushed
 pub mod PlanTexts
+pub mod ScriptPlans
+pub mod PlannedFiles

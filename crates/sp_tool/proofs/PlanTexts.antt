@@ -20,7 +20,7 @@ use Rattle.sp_planfile.proofs.Whole.{text_tells}
 use Rattle.sp_planning.specs.PlanFiles.{IsPlanFileFor, planned_contents}
 use Rattle.sp_tool.specs.Texts.{options_of, chooser_of, IsPlanText, OnePlan, ShownTextsAreKept}
 
-middle : (front xs back : List ℕ) → length xs ≤ length (front ++ (xs ++ back))
+pub middle : (front xs back : List ℕ) → length xs ≤ length (front ++ (xs ++ back))
 middle front xs back =
     let whole = length-append front (xs ++ back) in
     let rest = length-append xs back in

@@ -1,5 +1,7 @@
 pub mod Statuses
 pub mod Lines
 pub mod Texts
+pub mod Kinds
+pub mod Inputs
 pub mod Table
 pub mod Faults

@@ -5,7 +5,7 @@ use Rattle.std.specs.Fmt.{decimal}
 -- the words are those of no command
 abbrev pub usage_line : List ℕ
 usage_line =
-    codes "perseus: usage: perseus plan MODEL --beliefs N --depth D --stages N --seed S --workers 0 [--prune] [--explore uniform|sweep], perseus check MODEL, perseus show MODEL, perseus gen NUMBER, or perseus trial NUMBER\n"
+    codes "perseus: usage: perseus plan MODEL --beliefs N --depth D --stages N --seed S --workers 0 [--prune] [--explore uniform|sweep] [--sessions SCRIPT], perseus check MODEL, perseus show MODEL, perseus gen NUMBER, perseus trial NUMBER, perseus audit PLAN, perseus migrate PLAN, or perseus act PLAN SCRIPT\n"
 
 abbrev pub no_memory_line : List ℕ
 no_memory_line = codes "perseus: out of memory\n"
@@ -23,3 +23,11 @@ too_long_line file limit = codes "perseus: refused: " ++ (file ++ (codes ": long
 -- the file isn't accepted, for what stands at this byte
 abbrev pub refused_line : List ℕ → ℕ → List ℕ → List ℕ
 refused_line file at kind = codes "perseus: refused: " ++ (file ++ (codes ": byte " ++ (decimal at ++ (codes ": " ++ (kind ++ codes "\n")))))
+
+-- the plan file isn't legal, for what this note tells
+abbrev pub not_legal_line : List ℕ → List ℕ → List ℕ
+not_legal_line file note = codes "perseus: not legal: " ++ (file ++ (codes ": " ++ (note ++ codes "\n")))
+
+-- the script isn't accepted, for what stands on the line of this number
+abbrev pub refused_script_line : List ℕ → ℕ → List ℕ → List ℕ
+refused_script_line file number kind = codes "perseus: refused: " ++ (file ++ (codes ": line " ++ (decimal number ++ (codes ": " ++ (kind ++ codes "\n")))))

@@ -1,70 +1,104 @@
 -- Which status a call may give, and what it writes.
-use Rattle.std.specs.Prelude.{◌≡◌, ℕ, ◌<◌, ◌≤◌, List, [], ◌∷◌, length, Option, Some, Contains, ⊤, ◌⊎◌}
+use Rattle.std.specs.Prelude.{◌≡◌, ℕ, ◌≤◌, List, [], ◌∷◌, length, map, Option, Some, None, ◌≢◌, Contains, ⊤, ◌⊎◌}
 use Rattle.sp_outside.specs.Folder.{Folder, IsLater}
 use Rattle.sp_outside.specs.Written.{Written}
 use Rattle.sp_outside.specs.Counts.{Rose}
 use Rattle.sp_outside.specs.Bytes.{Appended, AppendedPart, IfTold}
 use Rattle.sp_model.specs.declared.parts.Parts.{Parts}
 use Rattle.sp_gen.specs.Models.{generated_text}
-use Rattle.sp_reader.specs.Sources.{Reads, IsFaulty}
+use Rattle.sp_reader.specs.Sources.{Reads}
+use Rattle.sp_value.specs.Events.{events_of}
+use Rattle.sp_script.specs.declared.command.Command.{Command}
+use Rattle.sp_script.specs.Script.{IsScript}
+use Rattle.sp_judging.specs.PlanFiles.{IsLegalPlan, IsAuditText, IsMigratedText}
+use Rattle.sp_judging.specs.ActTexts.{IsActText}
 use Rattle.sp_words.specs.declared.job.Job.{Job}
-use Rattle.sp_words.specs.declared.job.Job.TheVariants.{Plan, Check, Show, Gen, Trial}
+use Rattle.sp_words.specs.declared.job.Job.TheVariants.{Plan, Check, Show, Gen, Trial, Audit, Migrate, Act}
 use Rattle.sp_words.specs.Jobs.{Asks}
-use Rattle.sp_tool.specs.Lines.{usage_line, no_memory_line, cannot_write_line, cannot_read_line, too_long_line, refused_line}
-use Rattle.sp_tool.specs.Texts.{check_line, IsShownText, IsPlanText, IsTrialText}
+use Rattle.sp_tool.specs.Lines.{usage_line, no_memory_line, cannot_write_line, cannot_read_line}
+use Rattle.sp_tool.specs.Inputs.{Input, model_file, plan_file, script_file, name_of, model_limit, plan_limit, script_limit, all_accepted, last_refused, last_forbidden, next_unread, Ends}
+use Rattle.sp_tool.specs.Texts.{check_line, IsShownText, IsPlanText, IsScriptPlanText, IsTrialText}
 use Rattle.sp_tool.specs.declared.status.Status.{Status}
-use Rattle.sp_tool.specs.declared.status.Status.TheVariants.{Done, Refused, Usage, NoMemory, ReadFault, WriteFault}
+use Rattle.sp_tool.specs.declared.status.Status.TheVariants.{Done, Refused, Usage, NoMemory, ReadFault, WriteFault, NotLegal}
 
--- how many bytes a model file may have
-abbrev pub model_limit : ℕ
-model_limit = 16777216
+-- the script of that name, if there is one
+abbrev pub script_of : Option (List ℕ) → List Input
+script_of None = []
+script_of (Some name) = script_file name ∷ []
 
--- the files that a job names, in the order in which they are read
+-- the files that a job reads, in order
+abbrev pub inputs : Job → List Input
+inputs (Plan p) = model_file p.model ∷ script_of p.sessions
+inputs (Check model) = model_file model ∷ []
+inputs (Show model) = model_file model ∷ []
+inputs (Gen number) = []
+inputs (Trial number) = []
+inputs (Audit plan) = plan_file plan ∷ []
+inputs (Migrate plan) = plan_file plan ∷ []
+inputs (Act plan script) = plan_file plan ∷ script_file script ∷ []
+
+-- their names
 abbrev pub names : Job → List (List ℕ)
-names (Plan p) = p.model ∷ []
-names (Check model) = model ∷ []
-names (Show model) = model ∷ []
-names (Gen number) = []
-names (Trial number) = []
+names job = map name_of (inputs job)
 
 -- the bytes of a model file are within the limit and mean a model of which this holds
 abbrev pub Accepts : List ℕ → (Parts → Type 0) → Type 0
 Accepts source P = (length source ≤ model_limit) × ((model : Parts) × Reads source model × P model)
 
--- the bytes are refused at a byte for a reason, which the line tells
-abbrev pub TellsFault : List ℕ → List ℕ → List ℕ → Type 0
-TellsFault file source line = (at : ℕ) × ((kind : List ℕ) × IsFaulty source at kind × (line ≡ refused_line file at kind))
+-- the bytes of a plan file are within the limit, and this holds of them
+abbrev pub IsWithin : List ℕ → Type 0 → Type 0
+IsWithin source P = (length source ≤ plan_limit) × P
 
--- the bytes of a model file are too long, or refused
-abbrev pub Bars : List ℕ → List ℕ → List ℕ → Type 0
-Bars file source line =
-    ((model_limit < length source) × (line ≡ too_long_line file model_limit))
-    ⊎ ((length source ≤ model_limit) × TellsFault file source line)
+-- the bytes of a script are within the limit, and mean commands for the model of which this holds
+abbrev pub AcceptsScript : List ℕ → Parts → (List Command → Type 0) → Type 0
+AcceptsScript source model P = (length source ≤ script_limit) × ((cs : List Command) × IsScript model.sights source cs × P cs)
 
 -- for these bytes of its files a job may write this text
 abbrev pub Allows : Job → List (List ℕ) → List ℕ → Type 0
-Allows (Plan p) (source ∷ []) text = Accepts source (λ model. IsPlanText model p text)
+Allows (Plan p) (source ∷ []) text = (p.sessions ≡ None) × Accepts source (λ model. IsPlanText model p text)
+Allows (Plan p) (source ∷ script ∷ []) text = (p.sessions ≢ None) × Accepts source (λ model. AcceptsScript script model (λ cs. IsScriptPlanText model p cs text))
 Allows (Check name) (source ∷ []) text = Accepts source (λ model. text ≡ check_line model)
 Allows (Show name) (source ∷ []) text = Accepts source (λ model. IsShownText model text)
 Allows (Gen number) [] text = text ≡ generated_text number
 Allows (Trial number) [] text = (model : Parts) × Reads (generated_text number) model × IsTrialText model number text
+Allows (Audit name) (source ∷ []) text = IsWithin source (IsAuditText source text)
+Allows (Migrate name) (source ∷ []) text = IsWithin source (IsMigratedText source text)
+Allows (Act name script) (source ∷ commands ∷ []) text =
+    IsWithin source ((plan : IsLegalPlan source) × AcceptsScript commands plan.task.model (λ cs. IsActText plan.task (events_of plan.events) cs text))
 Allows job files text = ⊥
 
--- the bytes of the file that a job names are accepted; a generated text always is
+-- with these bytes all files of the job are accepted
 abbrev pub Grants : Job → List (List ℕ) → Type 0
-Grants (Plan p) (source ∷ []) = Accepts source (λ model. ⊤)
-Grants (Check name) (source ∷ []) = Accepts source (λ model. ⊤)
-Grants (Show name) (source ∷ []) = Accepts source (λ model. ⊤)
-Grants (Gen number) [] = ⊤
-Grants (Trial number) [] = ⊤
-Grants job files = ⊥
+Grants job files = Ends (inputs job) files all_accepted
 
--- the last of these bytes is refused, which this line tells
+-- the last of these bytes are refused, which this line tells, and those before them are accepted
 abbrev pub Refuses : Job → List (List ℕ) → List ℕ → Type 0
-Refuses (Plan p) (source ∷ []) line = Bars p.model source line
-Refuses (Check name) (source ∷ []) line = Bars name source line
-Refuses (Show name) (source ∷ []) line = Bars name source line
-Refuses job files line = ⊥
+Refuses job files line = Ends (inputs job) files (last_refused line)
+
+-- the last of these bytes are a plan file that isn't legal, which this line tells, and those before them are accepted
+abbrev pub Forbids : Job → List (List ℕ) → List ℕ → Type 0
+Forbids job files line = Ends (inputs job) files (last_forbidden line)
+
+-- all of these bytes are accepted, and the next file has this name
+abbrev pub Misses : Job → List (List ℕ) → List ℕ → Type 0
+Misses job files name = Ends (inputs job) files (next_unread name)
+
+-- the bytes are the same as far as both lists have some
+abbrev pub AgreeSoFar : List (List ℕ) → List (List ℕ) → Type 0
+AgreeSoFar [] others = ⊤
+AgreeSoFar (file ∷ files) [] = ⊤
+AgreeSoFar (file ∷ files) (other ∷ others) = (other ≡ file) × AgreeSoFar files others
+
+-- of the bytes of a job's files, however far they are read, one thing holds at most: all are accepted, the last one is refused, or it isn't legal;
+-- and a text is written only where all are accepted
+pub record EndOnce (job : Job) (files others : List (List ℕ)) : Type 0 where
+  pub accepted_or_refused : Grants job files → (line : List ℕ) → ¬ (Refuses job others line)
+  pub accepted_or_forbidden : Grants job files → (line : List ℕ) → ¬ (Forbids job others line)
+  pub refused_or_forbidden : (line : List ℕ) → Refuses job files line → (other : List ℕ) → ¬ (Forbids job others other)
+  pub written : (text : List ℕ) → Allows job files text → Grants job files
+
+abbrev pub FilesEndOnce : Type 0
+FilesEndOnce = (job : Job) (files others : List (List ℕ)) → AgreeSoFar files others → EndOnce job files others
 
 -- where the store tells a content, it is this
 abbrev pub Told : Option (List ℕ) → List ℕ → Type 0
@@ -108,13 +142,17 @@ Cause c Usage line =
 Cause c NoMemory line = (line ≡ no_memory_line) × (c.end ≡ c.out)
 Cause c ReadFault line =
     (job : Job) × Asks c.words job
-    × ((name : List ℕ) × Contains (names job) name × Rose (c.store.faults name) (c.later.faults name)
-    × (line ≡ cannot_read_line name) × (c.end ≡ c.out))
+    × ((files : List (List ℕ)) × Saw c.store (names job) files
+    × ((name : List ℕ) × Misses job files name × Rose (c.store.faults name) (c.later.faults name)
+    × (line ≡ cannot_read_line name) × (c.end ≡ c.out)))
 Cause c WriteFault line =
     (job : Job) × Asks c.words job
     × ((files : List (List ℕ)) × Saw c.store (names job) files
     × ((text : List ℕ) × Allows job files text × AppendedPart c.out.bytes c.end.bytes text
     × Rose c.out.faults c.end.faults × (line ≡ cannot_write_line)))
+Cause c NotLegal line =
+    (job : Job) × Asks c.words job
+    × ((files : List (List ℕ)) × Saw c.store (names job) files × Forbids job files line × (c.end ≡ c.out))
 
 -- err gained a part of the line, and all of it where its count did not rise
 pub record Tells (line : List ℕ) (err gone : Written) : Type 0 where
@@ -133,6 +171,8 @@ pub record Answers (c : Call) (err gone : Written) (status : Status) : Type 0 wh
   pub usage : ((job : Job) → ¬ (Asks c.words job)) → Contains (Usage ∷ NoMemory ∷ []) status
   pub refused : (job : Job) (files : List (List ℕ)) (line : List ℕ) → Asks c.words job → Holds c.store (names job) files
       → Refuses job files line → Contains (Refused ∷ ReadFault ∷ NoMemory ∷ []) status
+  pub forbidden : (job : Job) (files : List (List ℕ)) (line : List ℕ) → Asks c.words job → Holds c.store (names job) files
+      → Forbids job files line → Contains (NotLegal ∷ ReadFault ∷ NoMemory ∷ []) status
   pub complete : (job : Job) (files : List (List ℕ)) → Asks c.words job → Holds c.store (names job) files
       → Grants job files → NoFault c job → Contains (Done ∷ NoMemory ∷ []) status
   pub later : IsLater c.store c.later

@@ -1,5 +1,5 @@
 -- What the commands write.
-use Rattle.std.specs.Prelude.{◌≡◌, ℕ, ℤ, List, ◌++◌, length, codes, cond, Bool, false}
+use Rattle.std.specs.Prelude.{◌≡◌, ℕ, ℤ, List, [], ◌++◌, length, codes, cond, Bool, false, Some}
 use Rattle.std.specs.Fmt.{decimal}
 use Rattle.sp_theory.specs.Points.{count_of}
 use Rattle.sp_theory.specs.Model.{least_return}
@@ -12,7 +12,10 @@ use Rattle.sp_value.specs.declared.tasks.Options.{Options}
 use Rattle.sp_value.specs.declared.tasks.Explore.TheVariants.{Uniform, Sweep}
 use Rattle.sp_reader.specs.Sources.{Reads}
 use Rattle.sp_planfile.specs.ModelText.{model_bytes}
-use Rattle.sp_planning.specs.PlanFiles.{IsPlanFileFor, planned_contents}
+use Rattle.sp_planning.specs.PlanFiles.{IsPlanFileFor, planned_contents, values_after}
+use Rattle.sp_planning.specs.ScriptFiles.{IsScriptFileFor, scripted_contents}
+use Rattle.sp_judging.specs.PlanFiles.{IsLegalFile}
+use Rattle.sp_script.specs.declared.command.Command.{Command}
 use Rattle.sp_planner.specs.declared.summary.Summary.{Summary}
 use Rattle.sp_planner.specs.Planned.{IsSummaryFor}
 use Rattle.sp_words.specs.declared.job.PlanWords.{PlanWords}
@@ -63,6 +66,32 @@ abbrev pub OnePlan : Type 0
 OnePlan =
     (model other : Parts) (p q : PlanWords) (text : List ℕ) (one : IsPlanText model p text) (two : IsPlanText other q text)
     → (model ≡ other) × (options_of p ≡ options_of q) × (planned_contents model one.file.task one.file.events ≡ planned_contents other two.file.task two.file.events)
+
+-- the text is the plan file of what one thread plans for the model while it serves these commands, with the values of its editions and the logs of the
+-- sessions; and its lines of the model mean that model
+pub record IsScriptPlanText (model : Parts) (p : PlanWords) (cs : List Command) (text : List ℕ) : Type 0 where
+  pub file : IsScriptFileFor model (options_of p) (chooser_of p.sweep) cs text
+  pub meaning : Reads (model_bytes model) model
+
+-- the texts of two plans with sessions are the same only where the models and the options are, the actions and the observations of the beliefs, the
+-- events, the values of the editions, and the logs
+abbrev pub OneScriptPlan : Type 0
+OneScriptPlan =
+    (model other : Parts) (p q : PlanWords) (cs ds : List Command) (text : List ℕ) (one : IsScriptPlanText model p cs text) (two : IsScriptPlanText other q ds text)
+    → (model ≡ other) × (options_of p ≡ options_of q)
+    × (scripted_contents model one.file.task one.file.events one.file.transcript ≡ scripted_contents other two.file.task two.file.events two.file.transcript)
+
+-- what is planned is a legal plan file without sessions, whose values are true: an audit accepts it, up to the limit of plan files
+abbrev pub PlannedFilesAreLegal : Type 0
+PlannedFilesAreLegal =
+    (model : Parts) (p : PlanWords) (text : List ℕ) (one : IsPlanText model p text)
+    → IsLegalFile text one.file.task one.file.events (Some (values_after one.file.task one.file.events)) []
+
+-- what is planned with sessions is a legal plan file with their logs, whose values are true
+abbrev pub ScriptPlansAreLegal : Type 0
+ScriptPlansAreLegal =
+    (model : Parts) (p : PlanWords) (cs : List Command) (text : List ℕ) (one : IsScriptPlanText model p cs text)
+    → IsLegalFile text one.file.task one.file.events (Some (values_after one.file.task one.file.events)) one.file.transcript
 
 -- ---- trial
 -- what a trial of a number plans: 100 beliefs of depth 10 and 5 stages, with the number as its seed

@@ -16,6 +16,8 @@ pub enum Fault {
     Refused(Vec<u8>),
     ReadFault(String),
     WriteFault,
+    /// So may this one.
+    NotLegal(Vec<u8>),
 }
 
 impl From<AllocError> for Fault {
@@ -49,6 +51,7 @@ impl Fault {
             Fault::Refused(_) => Status::Refused,
             Fault::ReadFault(_) => Status::ReadFault,
             Fault::WriteFault => Status::WriteFault,
+            Fault::NotLegal(_) => Status::NotLegal,
         }
     }
 
@@ -58,11 +61,12 @@ impl Fault {
     {
         match self {
             Fault::Usage =>
-                b"perseus: usage: perseus plan MODEL --beliefs N --depth D --stages N --seed S --workers 0 [--prune] [--explore uniform|sweep], perseus check MODEL, perseus show MODEL, perseus gen NUMBER, or perseus trial NUMBER\n",
+                b"perseus: usage: perseus plan MODEL --beliefs N --depth D --stages N --seed S --workers 0 [--prune] [--explore uniform|sweep] [--sessions SCRIPT], perseus check MODEL, perseus show MODEL, perseus gen NUMBER, perseus trial NUMBER, perseus audit PLAN, perseus migrate PLAN, or perseus act PLAN SCRIPT\n",
             Fault::NoMemory => b"perseus: out of memory\n",
             Fault::Refused(line) => line.as_slice(),
             Fault::ReadFault(line) => line.as_bytes(),
             Fault::WriteFault => b"perseus: cannot write\n",
+            Fault::NotLegal(line) => line.as_slice(),
         }
     }
 }

@@ -1,10 +1,11 @@
 //! The model of a file.
 
-ghost use Rattle.std.specs.Prelude.{◌≡◌, ℕ, List, ◌≤◌, length, IfOk, IfErr};
+ghost use Rattle.std.specs.Prelude.{◌≡◌, ℕ, List, [], ◌∷◌, ◌≤◌, length, IfOk, IfErr};
 ghost use Rattle.sp_outside.specs.Folder.{IsLater};
 ghost use Rattle.sp_reader.specs.Sources.{Reads};
-ghost use Rattle.sp_tool.specs.Table.{Told, TellsFault, model_limit};
-ghost use Rattle.sp_tool.specs.Faults.{HindersReading, HindersFile, TellsRefusal};
+ghost use Rattle.sp_tool.specs.Inputs.{TellsNone, model_file, model_limit};
+ghost use Rattle.sp_tool.specs.Table.{Told};
+ghost use Rattle.sp_tool.specs.Faults.{HindersReading, HindersFiles, TellsReason};
 
 use crate::fault::Fault;
 use crate::lines;
@@ -19,7 +20,7 @@ const MODEL_LIMIT: u64 = 16_777_216;
 /// The model of a file.
 pub fn file_model<S: Store>(alloc: Global, store: &mut S, file: &str) -> Result<Model, Fault>
     ensures model { IfOk result (λ m. (source : List ℕ) × Told ((S.folder store.old).content file.now) source × (length source ≤ model_limit) × Reads source m) }
-    ensures fault { IfErr result (λ f. HindersFile file.now (S.folder store.old) (S.folder store.new) f) }
+    ensures fault { IfErr result (λ f. HindersFiles (model_file file.now ∷ []) (S.folder store.old) (S.folder store.new) f) }
     ensures later { IsLater (S.folder store.old) (S.folder store.new) }
 {
     match file_bytes(alloc, store, file, MODEL_LIMIT) {
@@ -29,7 +30,7 @@ pub fn file_model<S: Store>(alloc: Global, store: &mut S, file: &str) -> Result<
 }
 
 /// The bytes of a file, of which there may be so many.
-fn file_bytes<S: Store>(
+pub fn file_bytes<S: Store>(
     alloc: Global,
     store: &mut S,
     file: &str,
@@ -56,7 +57,7 @@ fn file_bytes<S: Store>(
 /// The model of these bytes, which are those of this file.
 pub fn model_in(alloc: Global, file: &str, source: &[u8]) -> Result<Model, Fault>
     ensures model { IfOk result (λ m. Reads source.now m) }
-    ensures fault { IfErr result (λ f. TellsRefusal file.now source.now f) }
+    ensures fault { IfErr result (λ f. TellsReason TellsNone (model_file file.now) source.now f) }
 {
     match read_model(alloc, source) {
         Ok(model) => Ok(model),

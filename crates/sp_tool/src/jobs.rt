@@ -1,6 +1,6 @@
 //! The texts of jobs.
 
-ghost use Rattle.std.specs.Prelude.{◌≡◌, ◌≤◌, [], ◌∷◌, map, IfOk, IfErr, MatchResult, Ok, Err};
+ghost use Rattle.std.specs.Prelude.{◌≡◌, ◌≤◌, [], ◌∷◌, map, IfOk, IfErr, MatchResult, Ok, Err, Some, None};
 ghost use Rattle.sp_outside.specs.Folder.{IsLater};
 ghost use Rattle.sp_choose.specs.Machines.{uniform, sweep};
 ghost use Rattle.sp_words.specs.Jobs.{IsPossible, ArePlanNumbers};
@@ -10,7 +10,9 @@ ghost use Rattle.sp_tool.specs.Faults.{Hinders};
 
 use crate::fault::Fault;
 use crate::file::{file_model, model_in};
-use crate::texts::{check_text, plan_text, show_text, trial_text};
+use crate::plans::{act_job, audit_job, migrate_job};
+use crate::scripts::file_script;
+use crate::texts::{check_text, plan_text, script_plan_text, show_text, trial_text};
 use sp_choose::Chooser;
 use sp_dd::NoMemory;
 use sp_gen::generated;
@@ -37,10 +39,13 @@ pub fn text_for<S: Store>(
         Job::Show { model } => show_job(alloc, store, model.as_str()),
         Job::Gen { number } => gen_job(alloc, *number),
         Job::Trial { number } => trial_job(alloc, *number, choosers),
+        Job::Audit { plan } => audit_job(alloc, store, plan.as_str()),
+        Job::Migrate { plan } => migrate_job(alloc, store, plan.as_str()),
+        Job::Act { plan, script } => act_job(alloc, store, plan.as_str(), script.as_str()),
     }
 }
 
-/// The text of a plan.
+/// The text of a plan, with the sessions of a script where the words name one.
 fn plan_job<S: Store>(
     alloc: Global,
     store: &mut S,
@@ -53,10 +58,57 @@ fn plan_job<S: Store>(
     ensures fault { IfErr result (λ f. Hinders (Plan words.now) (S.folder store.old) (S.folder store.new) f) }
     ensures later { IsLater (S.folder store.old) (S.folder store.new) }
 {
+    match &words.sessions {
+        None => plan_alone(alloc, store, words, choosers),
+        Some(script) => plan_with_script(alloc, store, words, script.as_str(), choosers),
+    }
+}
+
+/// The text of a plan without sessions.
+fn plan_alone<S: Store>(
+    alloc: Global,
+    store: &mut S,
+    words: &PlanWords,
+    choosers: Vec<Box<dyn Chooser + Send>>,
+) -> Result<Vec<u8>, Fault>
+    requires words { ArePlanNumbers words.now }
+    requires alone { words.now.sessions ≡ None }
+    requires choosers { map (λ b. machine b) choosers.items ≡ uniform ∷ sweep 0 ∷ [] }
+    ensures text { IfOk result (λ t. IsText (S.folder store.old) (Plan words.now) t.items) }
+    ensures fault { IfErr result (λ f. Hinders (Plan words.now) (S.folder store.old) (S.folder store.new) f) }
+    ensures later { IsLater (S.folder store.old) (S.folder store.new) }
+{
     match file_model(alloc, store, words.model.as_str()) {
         Ok(model) => or_no_memory(plan_text(alloc, model, words, choosers)),
         Err(fault) => Err(fault),
     }
+}
+
+/// The text of a plan with the sessions of a script.
+fn plan_with_script<S: Store>(
+    alloc: Global,
+    store: &mut S,
+    words: &PlanWords,
+    script: &str,
+    choosers: Vec<Box<dyn Chooser + Send>>,
+) -> Result<Vec<u8>, Fault>
+    requires words { ArePlanNumbers words.now }
+    requires script { words.now.sessions ≡ Some script.now }
+    requires choosers { map (λ b. machine b) choosers.items ≡ uniform ∷ sweep 0 ∷ [] }
+    ensures text { IfOk result (λ t. IsText (S.folder store.old) (Plan words.now) t.items) }
+    ensures fault { IfErr result (λ f. Hinders (Plan words.now) (S.folder store.old) (S.folder store.new) f) }
+    ensures later { IsLater (S.folder store.old) (S.folder store.new) }
+{
+    let model = match file_model(alloc, store, words.model.as_str()) {
+        Ok(model) => model,
+        Err(fault) => return Err(fault),
+    };
+    let commands = match file_script(alloc, store, script, &model) {
+        Ok(commands) => commands,
+        Err(fault) => return Err(fault),
+    };
+    let text = script_plan_text(alloc, model, words, choosers, commands)?;
+    Ok(text)
 }
 
 /// The text of a check.

@@ -1,11 +1,34 @@
-//! What holds of the texts of the commands. Each function does nothing: its contract is the law.
+//! What holds of the files and the texts of the commands. Each function does nothing: its contract is the law.
 
-ghost use Rattle.sp_tool.specs.Texts.{OnePlan, ShownTextsAreKept};
+ghost use Rattle.sp_tool.specs.Table.{FilesEndOnce};
+ghost use Rattle.sp_tool.specs.Texts.{OnePlan, OneScriptPlan, PlannedFilesAreLegal, ScriptPlansAreLegal, ShownTextsAreKept};
+
+/// Of the bytes of a command's files, however far they are read, one thing holds at most: all are accepted, the last one is refused, or it
+/// isn't legal; and a text is written only where all are accepted. So where the store tells its files, the causes of the statuses Done,
+/// Refused and NotLegal exclude one another.
+pub fn files_end_once()
+    ensures { FilesEndOnce }
+{}
 
 /// The text of a plan is that of one model, of one list of options and of one run only: with one action and observation for each
 /// belief from 1 on, one list of events, and one value for each edition.
 pub fn one_plan()
     ensures { OnePlan }
+{}
+
+/// The text of a plan with sessions is that of one model, of one list of options, and of one run with its logs only.
+pub fn one_script_plan()
+    ensures { OneScriptPlan }
+{}
+
+/// What is planned is a legal plan file without sessions, whose values are true: so an audit accepts it, up to the limit of plan files.
+pub fn planned_files_are_legal()
+    ensures { PlannedFilesAreLegal }
+{}
+
+/// What is planned with sessions is a legal plan file with their logs, whose values are true.
+pub fn script_plans_are_legal()
+    ensures { ScriptPlansAreLegal }
 {}
 
 /// The canonical text of a model is that of no other, and is its own canonical text.

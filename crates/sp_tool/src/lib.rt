@@ -6,10 +6,15 @@ mod file;
 mod jobs;
 mod laws;
 mod lines;
+mod plans;
 mod run;
+mod scripts;
 mod status;
 mod texts;
 
-pub use laws::{one_plan, shown_texts_are_kept};
+pub use laws::{
+    files_end_once, one_plan, one_script_plan, planned_files_are_legal, script_plans_are_legal,
+    shown_texts_are_kept,
+};
 pub use run::run_plain;
 pub use status::Status;

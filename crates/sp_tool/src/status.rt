@@ -18,6 +18,8 @@ pub enum Status {
     ReadFault,
     /// The text couldn't be written.
     WriteFault,
+    /// A plan file isn't legal, or one of its values isn't its edition's.
+    NotLegal,
 }
 
 impl Status {
@@ -32,6 +34,7 @@ impl Status {
             Status::NoMemory => 3,
             Status::ReadFault => 4,
             Status::WriteFault => 5,
+            Status::NotLegal => 6,
         }
     }
 }

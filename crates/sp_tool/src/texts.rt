@@ -1,20 +1,22 @@
 //! What the commands write.
 
-ghost use Rattle.std.specs.Prelude.{◌≡◌, ◌≤◌, ◌∷◌, [], IfOk, string_bytes, map};
+ghost use Rattle.std.specs.Prelude.{◌≡◌, ◌≤◌, ◌∷◌, [], All, IfOk, string_bytes, map};
 ghost use Rattle.sp_theory.specs.Points.{count_of};
 ghost use Rattle.sp_model.specs.Problem.{sizes_of};
+ghost use Rattle.sp_script.specs.Laws.{IsWithin};
 ghost use Rattle.sp_choose.specs.Machines.{uniform, sweep};
 ghost use Rattle.sp_words.specs.declared.job.PlanWords.{PlanWords};
 ghost use Rattle.sp_words.specs.Jobs.{ArePlanNumbers};
-ghost use Rattle.sp_tool.specs.Texts.{check_line, counts_text, range_text, options_of, chooser_of, trial_lines, trial_front, trial_back, IsShownText, IsPlanText, IsTrialText};
+ghost use Rattle.sp_tool.specs.Texts.{check_line, counts_text, range_text, options_of, chooser_of, trial_lines, trial_front, trial_back, IsShownText, IsPlanText, IsScriptPlanText, IsTrialText};
 
 use crate::fault::Fault;
 use sp_choose::Chooser;
 use sp_dd::NoMemory;
 use sp_model::Model;
 use sp_planner::{Summary, summarize};
-use sp_planning::plan_file;
+use sp_planning::{plan_file, script_file};
 use sp_read_back::{canonical_text, functions_law};
+use sp_script::Commands;
 use sp_show::decimal;
 use sp_value::{Explore, Options};
 use sp_words::PlanWords;
@@ -82,6 +84,27 @@ pub fn plan_text(
     functions_law(model.parts());
     let chooser = picked(choosers, words.sweep);
     let text = plan_file(alloc, model, options(words), chooser)?;
+    let _ = text.len();
+    Ok(text)
+}
+
+/// The plan file of the plan that words ask for, with the sessions of a script that is served while it is made.
+pub fn script_plan_text(
+    alloc: Global,
+    model: Model,
+    words: &PlanWords,
+    choosers: Vec<Box<dyn Chooser + Send>>,
+    commands: Commands,
+) -> Result<Vec<u8>, NoMemory>
+    requires words { ArePlanNumbers words.now }
+    requires commands { All (IsWithin (count_of (sizes_of model.sights))) commands }
+    requires choosers { map (λ b. machine b) choosers.items ≡ uniform ∷ sweep 0 ∷ [] }
+    ensures { IfOk result (λ text. IsScriptPlanText model words.now commands text.items) }
+{
+    // what is known of the model and of its functions, and below of the length of the text
+    functions_law(model.parts());
+    let chooser = picked(choosers, words.sweep);
+    let text = script_file(alloc, model, options(words), chooser, commands)?;
     let _ = text.len();
     Ok(text)
 }

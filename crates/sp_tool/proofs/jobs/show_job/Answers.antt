@@ -3,11 +3,11 @@ use Rattle.std.proofs.lemmas.Result.{IfOk-weaker}
 use Rattle.sp_words.specs.declared.job.Job.TheVariants.{Show}
 use Rattle.sp_tool.specs.Table.{IsText}
 use Rattle.sp_tool.specs.declared.fault.Fault.TheVariants.{NoMemory}
-use Rattle.sp_tool.proofs.TableLemmas.{show_hindered, on_kept}
+use Rattle.sp_tool.proofs.TableLemmas.{on_kept}
 use Rattle.sp_tool.proofs.jobs.show_job.Goals as goal
 
 pub returns-in-Err-clause-fault : goal.returns-in-Err-clause-fault
-returns-in-Err-clause-fault g c = show_hindered c.args.file.now (g.S.Store.folder c.args.store.now) (g.S.Store.folder c.file_model.new.store) c.in-Err.fault c.in-Err.ensures.fault
+returns-in-Err-clause-fault g c = c.in-Err.ensures.fault
 
 pub returns-in-Ok-clause-text : goal.returns-in-Ok-clause-text
 returns-in-Ok-clause-text g c =
