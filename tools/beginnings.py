@@ -1,8 +1,8 @@
-"""What is wanted of the beginnings of an accepted model file, from the rules of docs/MODEL_FILE.md alone.
+"""What is wanted of the beginnings of an accepted file, from the rules of docs/MODEL_FILE.md and of docs/PLAN_FILE.md alone.
 
-A beginning is cut at any byte. It is refused at its first token after which no continuation is in the grammar, or at its end where
-every token could still go on, or there for the parts that it lacks; or it is accepted. No other rule can be broken in it, since the
-whole file breaks none.
+A beginning is cut at any byte. That of a model file is refused at its first token after which no continuation is in the grammar, or at
+its end where every token could still go on, or there for the parts that it lacks; or it is accepted. That of a plan file is refused at its
+first line at fault. No other rule can be broken in it, since the whole file breaks none.
 """
 
 KEYWORDS = set("variables observations init dd enddd action endaction observe endobserve cost reward discount horizon tolerance unnormalized".split())
@@ -216,3 +216,19 @@ def judged(text, accepted):
 def lines_of(text, accepted):
     """What is wanted of each beginning of the text, of no byte, of one byte and so on, up to the whole of it."""
     return "".join("%d %s" % (length, judged(text[:length], accepted)) for length in range(len(text) + 1))
+
+
+def plan_fault(text):
+    """The place of the line at fault in a beginning of a plan file that isn't the whole of it."""
+    lines = text.split("\n")
+    # A line that is cut is at fault itself, and a missing one stands at the end; both begin behind the last line end.
+    cut = len(text) - len(lines[-1])
+    # Behind the first two lines all is missing where no line ends the model.
+    return cut if len(lines) <= 2 or "endmodel" in lines[2:-1] else len(text)
+
+
+def plan_lines_of(text, accepted):
+    """The same of a plan file, of which the line `accepted` is told."""
+    fault = "%d 1 perseus: refused: p.txt: byte %d: Shape\n"
+    lines = [fault % (length, plan_fault(text[:length])) for length in range(len(text))]
+    return "".join(lines) + "%d 0 %s\n" % (len(text), accepted)
