@@ -35,7 +35,7 @@ module _ (e : EditionParts) (known : IsEdition e) (tables : List MemberTable) (a
   tables_shaped k less =
       let within : k < length e.members = subst (λ (n : ℕ). k < n) are.count less in
       let is = are.each k within in
-      record { shape = ap (λ (f : Func). f.shape) is.vector ∙ (member_at e known k within).vector.shape; values = is.values }
+      record { shape = ap (λ (f : Func). f.shape) is.vector ∙ (member_at e known k within).vector.shape; tabled = is.tabled }
 
 pub table_is_vector : (e : EditionParts) (known : IsEdition e) (k : ℕ) → k < length e.members → (x : MemberTable) → IsMemberTable e k x → IsVector e.task.model x.vector
 table_is_vector e known k less x is = subst (IsVector e.task.model) (sym is.vector) (member_at e known k less).vector

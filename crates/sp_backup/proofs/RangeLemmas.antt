@@ -1,6 +1,6 @@
 -- The least and the greatest value of the first members, and the least id.
-use Rattle.std.proofs.Common.{◌≡◌, ℕ, ◌+◌, ◌^◌, ◌<◌, ◌≤◌, ⊎_elim, sym, subst, arith, length, get_or}
-use Rattle.std.specs.Prelude.{ℤ, ◌≤ℤ◌, unsigned_abs}
+use Rattle.std.proofs.Common.{◌≡◌, ℕ, ◌+◌, ◌^◌, ◌<◌, ◌≤◌, ⊎_elim, sym, ap, ◌∙◌, subst, arith, length, get_or}
+use Rattle.std.specs.Prelude.{ℤ, pos, ◌≤ℤ◌, unsigned_abs}
 use Rattle.std.proofs.lemmas.Bool.{cases_lt}
 use Rattle.sp_dd.specs.Func.{Everywhere}
 use Rattle.sp_dd.specs.Operations.{IsLeast, IsGreatest}
@@ -8,7 +8,10 @@ use Rattle.sp_theory.proofs.Whole.{≤ℤ_trans}
 use Rattle.sp_value.specs.declared.editions.Member.{Member}
 use Rattle.sp_value.specs.Editions.{EditionParts, IsEdition, IsVector, no_member}
 use Rattle.sp_value.proofs.Vectors.{member_at, vector_small}
-use Rattle.sp_backup.specs.Ranges.{AreAbove, AreBelow}
+use Rattle.sp_bounds.specs.Bounds.{link_window, action_window}
+use Rattle.sp_model.specs.declared.parts.Parts.{Parts}
+use Rattle.sp_model.specs.Problem.{problem}
+use Rattle.sp_backup.specs.Ranges.{AreAbove, AreBelow, AreBetween}
 
 -- no value of the first k members is below z, which is small
 pub record IsLow (e : EditionParts) (k : ℕ) (z : ℤ) : Type 0 where
@@ -56,3 +59,14 @@ least_small e is k less x same z low =
 pub greatest_small : (e : EditionParts) → IsEdition e → (k : ℕ) → k < length e.members → (x : Member) → x ≡ get_or e.members k no_member → (z : ℤ) → IsGreatest x.vector z → unsigned_abs z ≤ 10 ^ 18
 greatest_small e is k less x same z high =
     subst (λ (y : ℤ). unsigned_abs y ≤ 10 ^ 18) high.reached (vector_small e.task.model is.task.model x.vector (subst (λ (y : Member). IsVector e.task.model y.vector) (sym same) (member_at e is k less).vector) high.point high.inside)
+
+-- the range, as its ends are read
+pub between_read : (e : EditionParts) (low high l h : ℤ) → l ≡ low → h ≡ high → AreBetween e low high → AreBetween e l h
+between_read e low high l h same_low same_high is = subst (λ (z : ℤ). AreBetween e z h) (sym same_low) (subst (λ (z : ℤ). AreBetween e low z) (sym same_high) is)
+
+-- windows of a model that was read
+pub links_read : (p o : Parts) (r : ℕ) (y z : ℤ) → p ≡ o → z ≡ y → y ≡ pos (link_window (problem p) (2 ^ 62) r) → z ≡ pos (link_window (problem o) (2 ^ 62) r)
+links_read p o r y z same read is = read ∙ is ∙ ap (λ (x : Parts). pos (link_window (problem x) (2 ^ 62) r)) same
+
+pub actions_read : (p o : Parts) (r : ℕ) (y z : ℤ) → p ≡ o → z ≡ y → y ≡ pos (action_window (problem p) (2 ^ 62) r) → z ≡ pos (action_window (problem o) (2 ^ 62) r)
+actions_read p o r y z same read is = read ∙ is ∙ ap (λ (x : Parts). pos (action_window (problem x) (2 ^ 62) r)) same

@@ -21,7 +21,7 @@ use Rattle.sp_theory.proofs.Weighing.{le_same}
 use Rattle.sp_theory.proofs.Backups.{dot_from_zero}
 use Rattle.sp_model.proofs.Whole.{pos-unsigned_abs}
 use Rattle.sp_belief.proofs.WeightLemmas.{has-total, weights_has}
-use Rattle.sp_backup.specs.Functions.{value_at, AtAll, IsWithin, IsWeighed}
+use Rattle.sp_backup.specs.Functions.{value_at, AtAll, IsBounded, IsWeighed}
 use Rattle.sp_backup.proofs.Rewards.{reward_is, reward-at}
 use Rattle.sp_backup.proofs.Worth.{unprimed_from, vector_from}
 use Rattle.sp_backup.proofs.UnscaledSums.{dot_within}
@@ -34,8 +34,8 @@ module _ (p : Parts) (known : IsModel p) (a : ℕ) (action : a < length p.action
   pub reward_unprimed : IsOnUnprimed r
   reward_unprimed = unprimed_from p r is.shape (floored_reward (problem p) a) reward-value
 
-  pub reward_within : IsWithin r (10 ^ 15)
-  reward_within = is.within (10 ^ 15) (subst (λ (g : Func). IsWithin g (10 ^ 15)) (sym f_is) (reward_is p known a action).small)
+  pub reward_within : IsBounded r (10 ^ 15)
+  reward_within = is.within (10 ^ 15) (subst (λ (g : Func). IsBounded g (10 ^ 15)) (sym f_is) (reward_is p known a action).small)
 
   pub reward-dot : (w : Func) → w.shape ≡ shape_of p → Everywhere w (λ v. pos 0 ≤ℤ v) → state_dot w r ≡ dot (problem p) (weights_of p w) (floored_reward (problem p) a)
   unfolding problem

@@ -5,6 +5,7 @@ pub mod Choosing
 pub mod Members
 pub mod Ranges
 pub mod Posteriors
+pub mod Preparing
 pub mod Projections
 pub mod Trials
 pub mod Promises

@@ -13,6 +13,7 @@ ghost use Rattle.sp_backup.specs.Choosing.{ids_at, AreLinks};
 ghost use Rattle.sp_backup.specs.Trials.{IsTrial, IsActionVector};
 
 use crate::assembling::assemble;
+use crate::models::model_of;
 use crate::projections::{Kept, Projections};
 use crate::promises::pushed_trial;
 use crate::pulling::pulled_trial;
@@ -95,11 +96,11 @@ fn trial_of(alloc: Global, setting: &Setting, kept: &mut Kept) -> Result<Trial, 
     pushed_trial(alloc, setting, kept)
 }
 
-/// Whether a backup is made by the estimates of all members: there is one, or the belief is wide, and wider than all members
-/// together.
+/// Whether a backup is made by the estimates of all members and the vectors of all actions: there is one of each, or the belief is
+/// wide, and wider than all members together.
 fn is_pulled(setting: &Setting) -> bool {
     let members = setting.edition.members();
-    if members.len() == 1 {
+    if members.len() == 1 && model_of(setting.edition).action_count() == 1 {
         return true;
     }
     let width = setting.weights.func().nodes().len() as u64;

@@ -1,12 +1,12 @@
 //! The tables of a joint observation.
 
 ghost use Rattle.std.specs.Prelude.{◌≡◌, ◌<◌, All, length, IfOk};
-ghost use Rattle.sp_dd.specs.Operations.{exchanged};
+ghost use Rattle.sp_dd.specs.Operations.{exchange_of_slots};
 ghost use Rattle.sp_theory.specs.Points.{IsPoint, count_of, point_of};
 ghost use Rattle.sp_model.specs.Problem.{sizes_of};
 ghost use Rattle.sp_value.specs.Editions.{IsVector};
 ghost use Rattle.sp_backup.specs.Functions.{IsNextVector, IsNextTable, IsWeighed};
-ghost use Rattle.sp_backup.specs.Choosing.{observed_tables, multiplied, thinned_vector};
+ghost use Rattle.sp_backup.specs.Choosing.{observed_tables, product_with_tables, thinned_vector};
 
 use crate::moving::weigh_next;
 use sp_dd::{Ids, NoMemory};
@@ -54,7 +54,7 @@ impl<'a> ObservedTables<'a> {
     /// A value vector at the next state, multiplied by the tables, rounded down each time, and the next state weighed out.
     pub fn project(&self, alloc: Global, vector: &Func) -> Result<Func, NoMemory>
         requires { IsVector self.now.model.now vector.now }
-        ensures { IfOk result (λ r. IsWeighed self.now.model.now self.now.action (thinned_vector self.now.model.now self.now.action self.now.joint (exchanged vector.now)) r) }
+        ensures { IfOk result (λ r. IsWeighed self.now.model.now self.now.action (thinned_vector self.now.model.now self.now.action self.now.joint (exchange_of_slots vector.now)) r) }
     {
         let _ = self.model.parts();
         let primed = prime(alloc, vector)?;
@@ -104,7 +104,7 @@ fn multiply(alloc: Global, model: &Model, tables: &[Func], f: &Func) -> Result<F
     requires some { 0 < length tables.now }
     requires tables { All (IsNextTable model.now) tables.now }
     requires vector { IsNextVector model.now f.now }
-    ensures { IfOk result (λ r. r ≡ multiplied tables.now f.now) }
+    ensures { IfOk result (λ r. r ≡ product_with_tables tables.now f.now) }
 {
     let _ = model.parts();
     let mut out = mul_floor(alloc, &tables[0], f)?;

@@ -6,7 +6,7 @@ ghost use Rattle.sp_theory.specs.Points.{count_of};
 ghost use Rattle.sp_theory.specs.Model.{least_return, top};
 ghost use Rattle.sp_model.specs.Problem.{problem, shape_of, sizes_of};
 ghost use Rattle.sp_backup.specs.Posteriors.{AreAlike, constant_estimate};
-ghost use Rattle.sp_backup.specs.Projections.{IsProjection, IsEnd, AreEnds};
+ghost use Rattle.sp_backup.specs.Projections.{IsProjection, IsLastProjection, AreEnds};
 
 use crate::projections::Projection;
 use sp_dd::NoMemory;
@@ -73,7 +73,7 @@ fn end_at(
     requires joint { joint < count_of (sizes_of model.now.sights) }
     requires low { least_return (problem model.now) ≤ℤ value }
     requires high { value ≤ℤ top (problem model.now) }
-    ensures { IfOk result (IsEnd model.now action joint value) }
+    ensures { IfOk result (IsLastProjection model.now action joint value) }
 {
     let _ = model.parts();
     let all = constant(alloc, model.scope(), value)?;

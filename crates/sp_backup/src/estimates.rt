@@ -117,8 +117,9 @@ pub(crate) fn successors_of(
     ensures action { IfOk result (λ x. x.action ≡ action) }
     ensures weights { IfOk result (λ x. x.weights ≡ setting.now.weights.now) }
 {
+    let are_judged = setting.edition.members().len() > 1;
     if let Some(found) = kept.take_successors(setting.belief, action) {
-        if are_of(&found, setting, action) {
+        if are_of(&found, setting, action, are_judged) {
             return Ok(found);
         }
     }
@@ -128,13 +129,17 @@ pub(crate) fn successors_of(
         model_of(setting.edition),
         setting.weights,
         action,
+        are_judged,
     )
 }
 
-/// Whether they are what an action makes of the weights.
-fn are_of(found: &Successors, setting: &Setting, action: u64) -> bool
+/// Whether they are what an action makes of the weights, and judged where that is asked for.
+fn are_of(found: &Successors, setting: &Setting, action: u64, are_judged: bool) -> bool
     requires { found.now.weights.shape ≡ shape_of setting.now.edition.now.task.model }
     ensures { IsTrue result → (found.now.action ≡ action) × (found.now.weights ≡ setting.now.weights.now) }
 {
+    if are_judged && !found.are_judged {
+        return false;
+    }
     found.action == action && found.weights.same(setting.weights.func())
 }

@@ -13,6 +13,7 @@ mod linking;
 mod models;
 mod moving;
 mod posteriors;
+mod preparing;
 mod projections;
 mod promises;
 mod pulling;

@@ -8,12 +8,14 @@ ghost use Rattle.sp_belief.specs.Transfers.{HasWeights};
 ghost use Rattle.sp_belief.specs.Updates.{unscaled_after};
 ghost use Rattle.sp_belief.specs.Paths.{IsUnscaled};
 ghost use Rattle.sp_backup.specs.MemberTables.{IsNothingOr};
+ghost use Rattle.sp_backup.specs.Preparing.{IsPrepared};
 ghost use Rattle.sp_backup.specs.Posteriors.{IsPosterior, ArePosteriors, AreSuccessors, AreAlike};
 
 use crate::estimates::ends_of;
+use crate::preparing::{PreparedAction, prepared_of};
 use crate::projections::Kept;
 use crate::promises::reward_sum;
-use sp_belief::{ActionTables, Carried};
+use sp_belief::Carried;
 use sp_dd::NoMemory;
 use sp_model::functions::greatest;
 use sp_model::{Func, Model, Sequence, Weights};
@@ -45,6 +47,8 @@ pub(crate) struct Successors {
     pub weights: Func,
     pub reward: i128,
     pub posteriors: PosteriorList,
+    /// Whether it was looked at whether all vectors have one estimate. One member alone doesn't need it.
+    pub are_judged: bool,
 }
 
 impl Successors {
@@ -55,6 +59,7 @@ impl Successors {
         model: &Model,
         weights: &Weights,
         action: u64,
+        are_judged: bool,
     ) -> Result<Successors, NoMemory>
         requires kept { kept.old ≡ model.now }
         requires scope { weights.now.shape ≡ shape_of model.now }
@@ -64,15 +69,40 @@ impl Successors {
         ensures action { IfOk result (λ x. x.action ≡ action) }
         ensures weights { IfOk result (λ x. x.weights ≡ weights.now) }
     {
+        let prepared = prepared_of(alloc, kept, model, action)?;
+        let made = Successors::by(alloc, kept, model, weights, &prepared, are_judged);
+        kept.put_prepared(prepared);
+        made
+    }
+
+    /// What a prepared action makes of weights.
+    fn by(
+        alloc: Global,
+        kept: &mut Kept,
+        model: &Model,
+        weights: &Weights,
+        prepared: &PreparedAction,
+        are_judged: bool,
+    ) -> Result<Successors, NoMemory>
+        requires kept { kept.old ≡ model.now }
+        requires scope { weights.now.shape ≡ shape_of model.now }
+        requires prepared { IsPrepared model.now prepared.now }
+        ensures kept { kept.new ≡ kept.old }
+        ensures are { IfOk result (AreSuccessors model.now) }
+        ensures action { IfOk result (λ x. x.action ≡ prepared.now.tables.action) }
+        ensures weights { IfOk result (λ x. x.weights ≡ weights.now) }
+    {
         let _ = model.parts();
-        let reward = reward_sum(alloc, model, weights, action)?;
+        let action = prepared.tables.action;
+        let reward = reward_sum(alloc, model, weights, prepared)?;
         let copy = weights.func().copied(alloc)?;
-        let posteriors = posteriors_of(alloc, kept, model, weights, action)?;
+        let posteriors = posteriors_of(alloc, kept, model, weights, prepared, are_judged)?;
         Ok(Successors {
             action,
             weights: copy,
             reward,
             posteriors,
+            are_judged,
         })
     }
 
@@ -94,21 +124,22 @@ fn posteriors_of(
     kept: &mut Kept,
     model: &Model,
     weights: &Weights,
-    action: u64,
+    prepared: &PreparedAction,
+    are_judged: bool,
 ) -> Result<PosteriorList, NoMemory>
     requires kept { kept.old ≡ model.now }
     requires scope { weights.now.shape ≡ shape_of model.now }
-    requires action { action < length model.now.actions }
+    requires prepared { IsPrepared model.now prepared.now }
     ensures kept { kept.new ≡ kept.old }
-    ensures are { IfOk result (ArePosteriors model.now weights.now action (count_of (sizes_of model.now.sights))) }
+    ensures are { IfOk result (ArePosteriors model.now weights.now prepared.now.tables.action (count_of (sizes_of model.now.sights))) }
 {
     let _ = model.parts();
-    let tables = ActionTables::new(alloc, model, action)?;
-    let carried = Carried::by(alloc, model, &tables, weights)?;
-    let raws = carried.all_unscaled(alloc, &tables)?;
+    let tables = &prepared.tables;
+    let carried = Carried::by(alloc, model, tables, weights)?;
+    let raws = carried.all_unscaled(alloc, tables)?;
     let mut made = PosteriorList::new(alloc);
     for joint in 0..model.joint_count() {
-        let posterior = posterior_of(alloc, kept, &carried, joint, raws.at(joint))?;
+        let posterior = posterior_of(alloc, kept, &carried, joint, raws.at(joint), are_judged)?;
         made.push(posterior)?;
     }
     Ok(made)
@@ -121,6 +152,7 @@ fn posterior_of(
     carried: &Carried,
     joint: u64,
     raw: &Func,
+    is_judged: bool,
 ) -> Result<Posterior, NoMemory>
     requires kept { kept.old ≡ carried.now.model.now }
     requires joint { joint < count_of (sizes_of carried.now.model.now.sights) }
@@ -129,7 +161,7 @@ fn posterior_of(
     ensures is { IfOk result (IsPosterior carried.now.model.now carried.now.weights.now carried.now.action joint) }
 {
     let _ = carried.model.parts();
-    let is_alike = rules_out(alloc, kept, carried, joint, raw)?;
+    let is_alike = rules_out(alloc, kept, carried, joint, raw, is_judged)?;
     let list = list_of(alloc, carried, joint, raw)?;
     let weights = raw.copied(alloc)?;
     Ok(Posterior {
@@ -161,13 +193,14 @@ fn list_of(
     Ok(list)
 }
 
-/// Whether a joint observation has no weight, and all vectors have one estimate there.
+/// Whether a joint observation has no weight, and all vectors have one estimate there. No where that isn't judged.
 fn rules_out(
     alloc: Global,
     kept: &mut Kept,
     carried: &Carried,
     joint: u64,
     weights: &Func,
+    is_judged: bool,
 ) -> Result<bool, NoMemory>
     requires kept { kept.old ≡ carried.now.model.now }
     requires joint { joint < count_of (sizes_of carried.now.model.now.sights) }
@@ -175,7 +208,7 @@ fn rules_out(
     ensures alike { IfOk result (λ b. IsTrue b → AreAlike carried.now.model.now carried.now.weights.now carried.now.action joint) }
 {
     let _ = carried.model.parts();
-    if greatest(weights) != 0 {
+    if !is_judged || greatest(weights) != 0 {
         return Ok(false);
     }
     let ends = ends_of(alloc, kept, carried.model, carried.action, joint)?;

@@ -10,6 +10,7 @@ ghost use Rattle.sp_model.specs.Problem.{problem, shape_of};
 ghost use Rattle.sp_model.specs.Links.{weights_of};
 ghost use Rattle.sp_value.specs.Editions.{members_in};
 ghost use Rattle.sp_value.specs.Scores.{outdoes};
+ghost use Rattle.sp_backup.specs.Preparing.{IsPrepared};
 ghost use Rattle.sp_backup.specs.Promises.{IsPromisedAction};
 ghost use Rattle.sp_backup.specs.Trials.{IsTrial, worth_of};
 
@@ -17,7 +18,7 @@ use crate::backups::{ActionVector, Trial, vector_for};
 use crate::estimates::successors_of;
 use crate::linking::links_of;
 use crate::models::model_of;
-use crate::moving::weigh_next;
+use crate::preparing::PreparedAction;
 use crate::projections::Kept;
 use crate::setting::Setting;
 use sp_dd::{Ids, NoMemory};
@@ -167,22 +168,20 @@ fn sum_of(chosen: &PromisedAction) -> i128
     }
 }
 
-/// The expected reward of an action at weights, the next state weighed out.
+/// The expected reward of a prepared action at weights.
 pub(crate) fn reward_sum(
     alloc: Global,
     model: &Model,
     weights: &Weights,
-    action: u64,
+    prepared: &PreparedAction,
 ) -> Result<i128, NoMemory>
     requires weights { weights.now.shape ≡ shape_of model.now }
-    requires action { action < length model.now.actions }
-    ensures value { IfOk result (λ z. z ≡ theory_dot (problem model.now) (weights_of model.now weights.now) (floored_reward (problem model.now) action)) }
+    requires prepared { IsPrepared model.now prepared.now }
+    ensures value { IfOk result (λ z. z ≡ theory_dot (problem model.now) (weights_of model.now weights.now) (floored_reward (problem model.now) prepared.now.tables.action)) }
     ensures small { IfOk result (λ z. unsigned_abs z ≤ 2 ^ 112) }
 {
     let _ = model.parts();
-    let reward = model.reward(action).copied(alloc)?;
-    let moved = weigh_next(alloc, model, action, reward)?;
-    let sum = dot(alloc, weights.func(), &moved)?;
+    let sum = dot(alloc, weights.func(), &prepared.reward)?;
     Ok(sum)
 }
 

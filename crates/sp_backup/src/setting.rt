@@ -10,7 +10,6 @@ ghost use Rattle.sp_backup.specs.Ranges.{AreAbove, AreBelow, AreBetween, IsLeast
 
 use crate::models::model_of;
 use crate::values::MemberTables;
-use sp_model::functions::{greatest, least};
 use sp_model::{Model, Weights};
 use sp_value::Edition;
 
@@ -27,10 +26,16 @@ pub(crate) struct Setting<'a> {
     pub low: i128,
     pub high: i128,
     pub first: u64,
+    window_of_links: i128,
+    window_of_actions: i128,
     ghost scope: { weights.now.shape ≡ shape_of edition.now.task.model },
     ghost tables_are: { AreMemberTables edition.now (length edition.now.members) tables.now },
     ghost range: { AreBetween edition.now low high },
     ghost least_id: { IsLeastId edition.now first },
+    ghost links_apart: { window_of_links ≡ pos (theory_link_window (problem edition.now.task.model) (2 ^ 62) (apart low high)) },
+    ghost links_small: { unsigned_abs window_of_links ≤ 2 ^ 116 },
+    ghost actions_apart: { window_of_actions ≡ pos (theory_action_window (problem edition.now.task.model) (2 ^ 62) (farthest low high)) },
+    ghost actions_small: { unsigned_abs window_of_actions ≤ 2 ^ 116 },
 }
 
 impl<'a> Setting<'a> {
@@ -47,9 +52,10 @@ impl<'a> Setting<'a> {
         ensures weights { result.weights.now ≡ weights.now }
         ensures belief { result.belief ≡ belief }
     {
-        let low = least_value(edition);
-        let high = greatest_value(edition);
+        let low = least_value(edition, tables);
+        let high = greatest_value(edition, tables);
         let first = first_place(edition);
+        let model = model_of(edition);
         Setting {
             edition,
             weights,
@@ -58,6 +64,8 @@ impl<'a> Setting<'a> {
             low,
             high,
             first,
+            window_of_links: link_window(model, low, high),
+            window_of_actions: action_window(model, low, high),
         }
     }
 
@@ -66,7 +74,7 @@ impl<'a> Setting<'a> {
         ensures value { result ≡ pos (theory_link_window (problem self.now.edition.now.task.model) (2 ^ 62) (apart self.now.low self.now.high)) }
         ensures small { unsigned_abs result ≤ 2 ^ 116 }
     {
-        link_window(model_of(self.edition), self.low, self.high)
+        self.window_of_links
     }
 
     /// How far apart the promises of two actions may be where their vectors may still tell otherwise.
@@ -74,31 +82,34 @@ impl<'a> Setting<'a> {
         ensures value { result ≡ pos (theory_action_window (problem self.now.edition.now.task.model) (2 ^ 62) (farthest self.now.low self.now.high)) }
         ensures small { unsigned_abs result ≤ 2 ^ 116 }
     {
-        action_window(model_of(self.edition), self.low, self.high)
+        self.window_of_actions
     }
 }
 
 /// The least value of all members.
-fn least_value(edition: &Edition) -> i128
+fn least_value(edition: &Edition, tables: &MemberTables) -> i128
+    requires { AreMemberTables edition.now (length edition.now.members) tables.now }
     ensures bound { AreAbove edition.now (length edition.now.members) result }
     ensures small { unsigned_abs result ≤ 10 ^ 18 }
 {
     let members = edition.members();
-    let mut low = least_of(edition, 0);
+    let mut low = least_of(edition, tables, 0);
     for k in 1..members.len() {
-        let value = least_of(edition, k);
+        let value = least_of(edition, tables, k);
         low = lesser(low, value);
     }
     low
 }
 
 /// The least value of the member at a place.
-fn least_of(edition: &Edition, place: u64) -> i128
-    requires { place < length edition.now.members }
+fn least_of(edition: &Edition, tables: &MemberTables, place: u64) -> i128
+    requires place { place < length edition.now.members }
+    requires tables { AreMemberTables edition.now (length edition.now.members) tables.now }
     ensures bound { Everywhere (slice_index_or edition.now.members place no_member).vector (λ v. result ≤ℤ v) }
     ensures small { unsigned_abs result ≤ 10 ^ 18 }
 {
-    least(&edition.members().at(place).vector)
+    let _ = edition.members();
+    tables.at(place).low
 }
 
 /// The lesser of two numbers.
@@ -113,26 +124,29 @@ fn lesser(a: i128, b: i128) -> i128
 }
 
 /// The greatest value of all members.
-fn greatest_value(edition: &Edition) -> i128
+fn greatest_value(edition: &Edition, tables: &MemberTables) -> i128
+    requires { AreMemberTables edition.now (length edition.now.members) tables.now }
     ensures bound { AreBelow edition.now (length edition.now.members) result }
     ensures small { unsigned_abs result ≤ 10 ^ 18 }
 {
     let members = edition.members();
-    let mut high = greatest_of(edition, 0);
+    let mut high = greatest_of(edition, tables, 0);
     for k in 1..members.len() {
-        let value = greatest_of(edition, k);
+        let value = greatest_of(edition, tables, k);
         high = greater(high, value);
     }
     high
 }
 
 /// The greatest value of the member at a place.
-fn greatest_of(edition: &Edition, place: u64) -> i128
-    requires { place < length edition.now.members }
+fn greatest_of(edition: &Edition, tables: &MemberTables, place: u64) -> i128
+    requires place { place < length edition.now.members }
+    requires tables { AreMemberTables edition.now (length edition.now.members) tables.now }
     ensures bound { Everywhere (slice_index_or edition.now.members place no_member).vector (λ v. v ≤ℤ result) }
     ensures small { unsigned_abs result ≤ 10 ^ 18 }
 {
-    greatest(&edition.members().at(place).vector)
+    let _ = edition.members();
+    tables.at(place).high
 }
 
 /// The greater of two numbers.

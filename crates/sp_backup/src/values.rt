@@ -7,17 +7,19 @@ ghost use Rattle.sp_model.specs.Problem.{shape_of};
 ghost use Rattle.sp_backup.specs.MemberTables.{AreMemberTables, AreTables, IsMemberTable, IsNothingOr, no_table};
 
 use sp_dd::NoMemory;
-use sp_model::functions::dot;
+use sp_model::functions::{dot, greatest, least};
 use sp_model::{Func, Sequence};
 use sp_states::{SupportList, ValueTable};
 use sp_value::Edition;
 use std::alloc::Global;
 
-/// A member's vector, and its values at all states where it has a table.
+/// A member's vector, its values at all states where it has a table, and its least and its greatest value.
 #[derive(Drop)]
 pub(crate) struct MemberTable {
     pub vector: Func,
     pub table: Option<ValueTable>,
+    pub low: i128,
+    pub high: i128,
 }
 
 pub(crate) type MemberTables = Sequence<MemberTable>;
@@ -74,6 +76,8 @@ fn table_at(alloc: Global, edition: &Edition, place: u64) -> Result<MemberTable,
     Ok(MemberTable {
         vector: copy,
         table,
+        low: least(vector),
+        high: greatest(vector),
     })
 }
 

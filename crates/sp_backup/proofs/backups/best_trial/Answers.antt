@@ -15,6 +15,9 @@ use Rattle.sp_backup.proofs.backups.best_trial.Goals as goal
 pub new-setting-requires-clause-scope : goal.new-setting-requires-clause-scope
 new-setting-requires-clause-scope c = c.weights.ensures.shape ∙ ap (λ (t : TaskParts). shape_of t.model) (c.deref.ensures ∙ c.task.ensures)
 
+pub tables_for-requires : goal.tables_for-requires
+tables_for-requires c = subst (λ (p : Parts). AreTables (shape_of p) c.take_tables-before.result) c.in_ok-held.ensures c.take_tables-before.ensures.shape
+
 pub put_tables-requires : goal.put_tables-requires
 put_tables-requires c =
     let tables = c.in_ok-tables.tables in

@@ -15,10 +15,10 @@ loop-joint-preserved c =
     let x = c.in_ok-posterior.posterior in
     record {
       kept = c.posterior_of.ensures.kept ∙ c.loop-joint.invariant.kept;
-      are = posteriors_push c.args.model.now c.args.weights.now c.args.action c.loop-joint.joint _ _ _ x refl c.loop-joint.invariant.are
-          (subst (λ (p : Parts). IsPosterior p c.args.weights.now c.args.action c.loop-joint.joint x) carried.model
-          (subst (λ (w : Func). IsPosterior c.in_ok-carried.carried.model.now w c.args.action c.loop-joint.joint x) carried.weights
-          (subst (λ (a : ℕ). IsPosterior c.in_ok-carried.carried.model.now c.in_ok-carried.carried.weights.now a c.loop-joint.joint x) (carried.action ∙ c.in_ok-tables.ensures.action) c.in_ok-posterior.ensures.is)))
+      are = posteriors_push c.args.model.now c.args.weights.now c.args.prepared.now.tables.action c.loop-joint.joint _ _ _ x refl c.loop-joint.invariant.are
+          (subst (λ (p : Parts). IsPosterior p c.args.weights.now c.args.prepared.now.tables.action c.loop-joint.joint x) carried.model
+          (subst (λ (w : Func). IsPosterior c.in_ok-carried.carried.model.now w c.args.prepared.now.tables.action c.loop-joint.joint x) carried.weights
+          (subst (λ (a : ℕ). IsPosterior c.in_ok-carried.carried.model.now c.in_ok-carried.carried.weights.now a c.loop-joint.joint x) carried.action c.in_ok-posterior.ensures.is)))
           c.in_ok-push.ensures.ok;
     }
 

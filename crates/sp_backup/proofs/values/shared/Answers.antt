@@ -17,7 +17,7 @@ loop-place-preserved c =
     let entry = get_or_from_slice_get tables place c.at.result.now no_table c.at.ensures in
     let here : IsMemberTable e place (get_or tables place no_table) = record {
       vector = ap (λ (x : MemberTable). x.vector) entry ∙ c.if-not-same.ensures.0 (search rules) ∙ ap (λ (m : Member). m.vector) (member_is e.members c.members-members.ensures.value place _ c.at-in-loop-place.ensures);
-      values = (c.requires place within).values;
+      tabled = (c.requires place within).tabled;
     } in
     (λ k less. ⊎_elim (λ (early : k < place). c.loop-place.invariant k early)
     (λ (late : place ≤ k). let same : place ≡ k = omega (arith, less, late) in subst (λ (i : ℕ). IsMemberTable e i (get_or tables i no_table)) same here)

@@ -1,8 +1,8 @@
 use Rattle.std.proofs.Common.{◌<◌, ◌^◌, arith, sym, ap, ◌∙◌, subst, length, List}
 use Rattle.std.specs.Prelude.{All}
 use Rattle.sp_dd.specs.Func.{Func}
-use Rattle.sp_backup.specs.Functions.{IsNextTable, IsNextVector, IsWithin, IsWeighed}
-use Rattle.sp_backup.specs.Choosing.{multiplied}
+use Rattle.sp_backup.specs.Functions.{IsNextTable, IsNextVector, IsBounded, IsWeighed}
+use Rattle.sp_backup.specs.Choosing.{product_with_tables}
 use Rattle.sp_backup.proofs.Priming.{primed_is}
 use Rattle.sp_backup.proofs.LinkSums.{tables-some, tables-known, thinned-next, thinned-within}
 use Rattle.sp_backup.proofs.choosing.ObservedTables.project.Goals as goal
@@ -23,17 +23,17 @@ multiply-requires-clause-vector c = let s = c.args.self.now in subst (IsNextVect
 pub weigh_next-requires-clause-shape : goal.weigh_next-requires-clause-shape
 weigh_next-requires-clause-shape c =
     let s = c.args.self.now in
-    ap (λ (f : Func). f.shape) (c.in_ok-thinned.ensures ∙ (λ i. multiplied ((c.as_slice.ensures ∙ s.tables_are) i) (c.in_ok-primed.ensures i)))
+    ap (λ (f : Func). f.shape) (c.in_ok-thinned.ensures ∙ (λ i. product_with_tables ((c.as_slice.ensures ∙ s.tables_are) i) (c.in_ok-primed.ensures i)))
     ∙ (thinned-next s.model.now c.parts.ensures.known s.action s.joint s.action_known s.joint_known c.args.vector.now c.requires).shape
 
 pub weigh_next-requires-clause-small : goal.weigh_next-requires-clause-small
 weigh_next-requires-clause-small c =
     let s = c.args.self.now in
-    let within = subst (λ (f : Func). IsWithin f (10 ^ 18)) (sym (c.in_ok-thinned.ensures ∙ (λ i. multiplied ((c.as_slice.ensures ∙ s.tables_are) i) (c.in_ok-primed.ensures i))))
+    let within = subst (λ (f : Func). IsBounded f (10 ^ 18)) (sym (c.in_ok-thinned.ensures ∙ (λ i. product_with_tables ((c.as_slice.ensures ∙ s.tables_are) i) (c.in_ok-primed.ensures i))))
     (thinned-within s.model.now c.parts.ensures.known s.action s.joint s.action_known s.joint_known c.args.vector.now c.requires) in
     (λ x at. let small = within x at in omega (arith, small))
 
 pub returns : goal.returns
 returns c =
     let s = c.args.self.now in
-    subst (λ (f : Func). IsWeighed s.model.now s.action f c.in_ok-made.made) (c.in_ok-thinned.ensures ∙ (λ i. multiplied ((c.as_slice.ensures ∙ s.tables_are) i) (c.in_ok-primed.ensures i))) c.in_ok-made.ensures
+    subst (λ (f : Func). IsWeighed s.model.now s.action f c.in_ok-made.made) (c.in_ok-thinned.ensures ∙ (λ i. product_with_tables ((c.as_slice.ensures ∙ s.tables_are) i) (c.in_ok-primed.ensures i))) c.in_ok-made.ensures

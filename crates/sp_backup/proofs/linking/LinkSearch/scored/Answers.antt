@@ -29,7 +29,7 @@ pub listed_dot-requires-clause-list : goal.listed_dot-requires-clause-list
 listed_dot-requires-clause-list c = let s = c.args.self.now in if_some s.posterior.now.list s.posterior.now.weights s.posterior_is.listed
 
 pub listed_dot-requires-clause-table : goal.listed_dot-requires-clause-table
-listed_dot-requires-clause-table c = if_some c.at-member.result.now.table c.at-member.result.now.vector (table_is (goal.at.listed_dot-requires-clause-table c).After-at-member).values
+listed_dot-requires-clause-table c = if_some c.at-member.result.now.table c.at-member.result.now.vector (table_is (goal.at.listed_dot-requires-clause-table c).After-at-member).tabled.values
 
 pub listed_dot-requires-clause-unprimed_w : goal.listed_dot-requires-clause-unprimed_w
 listed_dot-requires-clause-unprimed_w c = let s = c.args.self.now in has_unprimed s.setting.now.edition.now.task.model c.members.ensures.known.task.model s.posterior.now.weights _ s.posterior_is.has

@@ -7,6 +7,7 @@ use Rattle.sp_backup.proofs.projections.Kept.put_projection.Goals as goal
 
 pub invariant_of-self : goal.invariant_of-self
 invariant_of-self c = record {
+  prepared = c.self.invariant.prepared;
   successors = c.self.invariant.successors;
   projections =
       tried (IsProjection _) same.ghosts.eq c.self.inside.projections c.put.new.self (record { id = c.args.id; action = c.args.projection.action; joint = c.args.projection.joint }) c.args.projection c.put.result c.put.ensures.entries c.put.ensures.err c.self.invariant.projections

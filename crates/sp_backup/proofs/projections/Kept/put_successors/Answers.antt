@@ -7,6 +7,7 @@ use Rattle.sp_backup.proofs.projections.Kept.put_successors.Goals as goal
 
 pub invariant_of-self : goal.invariant_of-self
 invariant_of-self c = record {
+  prepared = c.self.invariant.prepared;
   successors =
       tried (AreSuccessors _) same.ghosts.eq c.self.inside.successors c.put.new.self (record { belief = c.args.belief; action = c.args.successors.action }) c.args.successors c.put.result c.put.ensures.entries c.put.ensures.err c.self.invariant.successors
       (subst (λ (p : Parts). AreSuccessors p c.args.successors) (sym c.self.view_is) c.requires);

@@ -9,6 +9,7 @@ use Rattle.sp_backup.proofs.projections.Kept.put_tables.Goals as goal
 
 pub invariant_of-self : goal.invariant_of-self
 invariant_of-self c = record {
+  prepared = c.self.invariant.prepared;
   successors = c.self.invariant.successors;
   projections = c.self.invariant.projections;
   ends = c.self.invariant.ends;

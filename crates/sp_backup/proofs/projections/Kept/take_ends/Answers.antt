@@ -9,6 +9,7 @@ use Rattle.sp_backup.proofs.projections.Kept.take_ends.Goals as goal
 
 pub invariant_of-self : goal.invariant_of-self
 invariant_of-self c = record {
+  prepared = c.self.invariant.prepared;
   successors = c.self.invariant.successors;
   ends = removed (AreEnds _) _ _ _ (ap (λ (x : LruCache Sight Ends). x.entries) c.pop-taken.ensures.entries) c.self.invariant.ends;
   projections = c.self.invariant.projections;

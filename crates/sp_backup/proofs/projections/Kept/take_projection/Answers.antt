@@ -9,6 +9,7 @@ use Rattle.sp_backup.proofs.projections.Kept.take_projection.Goals as goal
 
 pub invariant_of-self : goal.invariant_of-self
 invariant_of-self c = record {
+  prepared = c.self.invariant.prepared;
   successors = c.self.invariant.successors;
   projections = removed (IsProjection _) _ _ _ (ap (λ (x : LruCache Triple Projection). x.entries) c.pop.ensures.entries) c.self.invariant.projections;
   ends = c.self.invariant.ends;
