@@ -7,7 +7,7 @@ use Rattle.sp_dd.specs.declared.part.Part.{Part}
 use Rattle.sp_dd.specs.declared.nodes.Head.{Head}
 use Rattle.sp_dd.specs.NodeLists.{Node, made_node}
 use Rattle.sp_dd.specs.Ordered.{no_node, node_at}
-use Rattle.sp_dd.specs.Flat.{node_of, nodes_of, no_head, head_at, AreWithin}
+use Rattle.sp_dd.specs.Flat.{node_of, nodes_of, no_head, head_at, ArePartsInBuffer}
 use Rattle.std.proofs.Common.{Result, Ok, Err, OnErr}
 
 -- more parts in the buffer change no node
@@ -17,10 +17,10 @@ node_of-append ps qs h l =
     let e : drop h.from (ps ++ qs) ≡ drop h.from ps ++ qs = drop-append-le h.from ps qs (omega arith) in
     ap (made_node h.slot) (ap (take h.count) e ∙ take-append-le h.count (drop h.from ps) qs (omega arith))
 
-within_rest : (n : ℕ) (h : Head) (heads : List Head) → AreWithin n (h ∷ heads) → AreWithin n heads
+within_rest : (n : ℕ) (h : Head) (heads : List Head) → ArePartsInBuffer n (h ∷ heads) → ArePartsInBuffer n heads
 within_rest n h heads w k l = w (suc k) (omega arith)
 
-pub nodes_of-append : (ps qs : List Part) (heads : List Head) → AreWithin (length ps) heads → nodes_of (ps ++ qs) heads ≡ nodes_of ps heads
+pub nodes_of-append : (ps qs : List Part) (heads : List Head) → ArePartsInBuffer (length ps) heads → nodes_of (ps ++ qs) heads ≡ nodes_of ps heads
 nodes_of-append ps qs [] w = refl
 nodes_of-append ps qs (h ∷ heads) w =
     ap₂ (λ x xs. x ∷ xs) (node_of-append ps qs h (w 0 (omega arith))) (nodes_of-append ps qs heads (within_rest (length ps) h heads w))
@@ -30,7 +30,7 @@ last_node ps qs s u f c e k =
     ap (made_node s) (ap (λ n. take c (drop n (ps ++ qs))) e ∙ ap (take c) (drop-append_seam ps qs) ∙ take_all c qs (omega arith))
 
 -- one more node
-pub nodes_of-push : (ps qs all : List Part) (heads more : List Head) (view : List Node) (s u f c : ℕ) → nodes_of ps heads ≡ view → AreWithin (length ps) heads → f ≡ length ps → c ≡ length qs → all ≡ ps ++ qs → (let h : Head = record { slot = s; uses = u; from = f; count = c } in more ≡ heads ++ h ∷ []) → nodes_of all more ≡ view ++ made_node s qs ∷ []
+pub nodes_of-push : (ps qs all : List Part) (heads more : List Head) (view : List Node) (s u f c : ℕ) → nodes_of ps heads ≡ view → ArePartsInBuffer (length ps) heads → f ≡ length ps → c ≡ length qs → all ≡ ps ++ qs → (let h : Head = record { slot = s; uses = u; from = f; count = c } in more ≡ heads ++ h ∷ []) → nodes_of all more ≡ view ++ made_node s qs ∷ []
 nodes_of-push ps qs all heads more view s u f c v w e k a m =
     let h : Head = record { slot = s; uses = u; from = f; count = c } in
     ap₂ (λ x y. nodes_of x y) a m
@@ -48,7 +48,7 @@ node_here ps heads view k h v l e =
     let size : length view ≡ length heads = ap length (sym v) ∙ length-map heads (node_of ps) in
     ap (λ x. node_at x k) (sym v) ∙ get_or-map (node_of ps) heads k h no_node (omega (arith, size, l)) ∙ ap (node_of ps) (sym e)
 
-pub within_here : (ps : List Part) (heads : List Head) (view : List Node) (k : ℕ) (h : Head) → nodes_of ps heads ≡ view → AreWithin (length ps) heads → k < length view → h ≡ get_or heads k h → h.from + h.count ≤ length ps
+pub within_here : (ps : List Part) (heads : List Head) (view : List Node) (k : ℕ) (h : Head) → nodes_of ps heads ≡ view → ArePartsInBuffer (length ps) heads → k < length view → h ≡ get_or heads k h → h.from + h.count ≤ length ps
 within_here ps heads view k h v w l e =
     let size : length view ≡ length heads = ap length (sym v) ∙ length-map heads (node_of ps) in
     let low : k < length heads = omega (arith, size, l) in
@@ -59,7 +59,7 @@ within_here ps heads view k h v w l e =
 pub other_slot : (ps : List Part) (heads : List Head) (view : List Node) (k : ℕ) (h : Head) (s : ℕ) (qs : List Part) → nodes_of ps heads ≡ view → k < length view → h ≡ get_or heads k h → h.slot ≢ s → IsTrue false ↔ node_at view k ≡ made_node s qs
 other_slot ps heads view k h s qs v l e n = (λ t. absurd (false≢true t), λ q. absurd (n (ap (λ x. x.slot) (sym (node_here ps heads view k h v l e) ∙ q))))
 
-pub other_count : (ps : List Part) (heads : List Head) (view : List Node) (k : ℕ) (h : Head) (s : ℕ) (qs : List Part) → nodes_of ps heads ≡ view → AreWithin (length ps) heads → k < length view → h ≡ get_or heads k h → length qs ≢ h.count → IsTrue false ↔ node_at view k ≡ made_node s qs
+pub other_count : (ps : List Part) (heads : List Head) (view : List Node) (k : ℕ) (h : Head) (s : ℕ) (qs : List Part) → nodes_of ps heads ≡ view → ArePartsInBuffer (length ps) heads → k < length view → h ≡ get_or heads k h → length qs ≢ h.count → IsTrue false ↔ node_at view k ≡ made_node s qs
 other_count ps heads view k h s qs v w l e n = (
   λ t. absurd (false≢true t),
   λ q. absurd (n (

@@ -19,4 +19,5 @@ pub mod Keeping
 pub mod Known
 pub mod Steps
 pub mod Diagramming
+pub mod Doubles
 pub mod BundleLemmas

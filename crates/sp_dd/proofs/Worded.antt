@@ -6,7 +6,7 @@ use Rattle.std.proofs.lemmas.List.{get_or_append_left, get_or_push, length_push,
 use Rattle.sp_dd.specs.declared.part.Part.{Part}
 use Rattle.sp_dd.specs.declared.part.Part.TheVariants.{Leaf, At}
 use Rattle.sp_dd.specs.Hashes.{mixed, leaf_hash, part_hash}
-use Rattle.sp_dd.specs.Wording.{word_part, parts_of, IsPlain, IsWithin, AreWithin, IsGrown, IsWordOf}
+use Rattle.sp_dd.specs.Wording.{word_part, parts_of, IsPlain, IsWideLeafWithin, AreWordsWithin, AreLeavesGrown, IsWordOf}
 
 -- the part of each kind of word
 
@@ -28,7 +28,7 @@ word_leaf wide w l =
 
 -- a word whose wide leaf is there keeps its part as more wide leaves come
 
-pub word_grows : (wide more : List ℤ) (w : ℕ) → IsWithin (length wide) w → word_part (wide ++ more) w ≡ word_part wide w
+pub word_grows : (wide more : List ℤ) (w : ℕ) → IsWideLeafWithin (length wide) w → word_part (wide ++ more) w ≡ word_part wide w
 word_grows wide more w h =
     ⊎_elim
     (λ (l : w < 4294967296). word_at (wide ++ more) w l ∙ sym (word_at wide w l))
@@ -39,27 +39,27 @@ word_grows wide more w h =
     (cases_lt w 8589934592))
     (cases_lt w 4294967296)
 
-within_rest : (n w : ℕ) (ws : List ℕ) → AreWithin n (w ∷ ws) → AreWithin n ws
+within_rest : (n w : ℕ) (ws : List ℕ) → AreWordsWithin n (w ∷ ws) → AreWordsWithin n ws
 within_rest n w ws h k l = h (suc k) (omega arith)
 
-pub parts_grow : (wide more : List ℤ) (ws : List ℕ) → AreWithin (length wide) ws → parts_of (wide ++ more) ws ≡ parts_of wide ws
+pub parts_grow : (wide more : List ℤ) (ws : List ℕ) → AreWordsWithin (length wide) ws → parts_of (wide ++ more) ws ≡ parts_of wide ws
 parts_grow wide more [] h = refl
 parts_grow wide more (w ∷ ws) h =
     ap₂ (λ x xs. x ∷ xs) (word_grows wide more w (h 0 (omega arith))) (parts_grow wide more ws (within_rest (length wide) w ws h))
 
 -- one more word
 
-pub within_push : (n m : ℕ) (ws more : List ℕ) (w : ℕ) → n ≤ m → AreWithin n ws → IsWithin m w → more ≡ ws ++ w ∷ [] → AreWithin m more
+pub within_push : (n m : ℕ) (ws more : List ℕ) (w : ℕ) → n ≤ m → AreWordsWithin n ws → IsWideLeafWithin m w → more ≡ ws ++ w ∷ [] → AreWordsWithin m more
 within_push n m ws more w l h x e k j =
-    let P : List ℕ → Type 0 = λ v. IsWithin m (get_or v k 0) in
+    let P : List ℕ → Type 0 = λ v. IsWideLeafWithin m (get_or v k 0) in
     let size : k < length (ws ++ w ∷ []) = omega (arith, j, ap length e) in
     subst P (sym e) (
     ⊎_elim
-    (λ (low : k < length ws). (let Q : ℕ → Type 0 = λ v. IsWithin m v in subst Q (sym (get_or_append_left ws (w ∷ []) 0 k low)) (λ a b. (let o : get_or ws k 0 - 4294967296 < n = h k low a b in omega (arith, o, l)))))
-    (λ (high : length ws ≤ k). (let last : length ws ≡ k = omega (arith, size, length_push ws w) in let Q : ℕ → Type 0 = λ v. IsWithin m v in subst Q (sym (get_or_push ws w 0 k last)) x))
+    (λ (low : k < length ws). (let Q : ℕ → Type 0 = λ v. IsWideLeafWithin m v in subst Q (sym (get_or_append_left ws (w ∷ []) 0 k low)) (λ a b. (let o : get_or ws k 0 - 4294967296 < n = h k low a b in omega (arith, o, l)))))
+    (λ (high : length ws ≤ k). (let last : length ws ≡ k = omega (arith, size, length_push ws w) in let Q : ℕ → Type 0 = λ v. IsWideLeafWithin m v in subst Q (sym (get_or_push ws w 0 k last)) x))
     (cases_lt k (length ws)))
 
-pub plain_within : (n w : ℕ) → IsPlain w → IsWithin n w
+pub plain_within : (n w : ℕ) → IsPlain w → IsWideLeafWithin n w
 plain_within n w h l m = absurd (omega (arith, h.apart l, m))
 
 pub parts_push : (wide : List ℤ) (ws more : List ℕ) (w : ℕ) (view : List Part) (a : Part) → parts_of wide ws ≡ view → more ≡ ws ++ w ∷ [] → word_part wide w ≡ a → parts_of wide more ≡ view ++ a ∷ []
@@ -73,7 +73,7 @@ part_of_word wide ws view k w a v l e p =
     let size : length view ≡ length ws = ap length (sym v) ∙ length-map ws (word_part wide) in
     sym p ∙ ap (word_part wide) e ∙ sym (get_or-map (word_part wide) ws k w (Leaf (pos 0)) (omega (arith, size, l))) ∙ ap (λ x. get_or x k (Leaf (pos 0))) v
 
-pub within_at : (wide : List ℤ) (ws : List ℕ) (view : List Part) (n k w : ℕ) → parts_of wide ws ≡ view → AreWithin n ws → k < length view → w ≡ get_or ws k w → 4294967296 ≤ w → w < 8589934592 → w - 4294967296 < n
+pub within_at : (wide : List ℤ) (ws : List ℕ) (view : List Part) (n k w : ℕ) → parts_of wide ws ≡ view → AreWordsWithin n ws → k < length view → w ≡ get_or ws k w → 4294967296 ≤ w → w < 8589934592 → w - 4294967296 < n
 within_at wide ws view n k w v h l e a b =
     let size : length view ≡ length ws = ap length (sym v) ∙ length-map ws (word_part wide) in
     let low : k < length ws = omega (arith, size, l) in
@@ -98,7 +98,7 @@ wide_is wide vals z y k v l e f m =
       is = word_wide wide (4294967296 + k) (omega arith) (omega (arith, m)) ∙ ap Leaf (ap (λ i. get_or wide i (pos 0)) (omega arith) ∙ get_or_default wide k (pos 0) y low ∙ ap (λ x. get_or x k y) (sym v) ∙ sym e ∙ f);
     }
 
-pub wide_added : (old new : List ℤ) (z : ℤ) (k : ℕ) → new ≡ old ++ z ∷ [] → k ≡ length old → k < 4294967295 → IsGrown old new × IsWordOf new (Leaf z) (4294967296 + k)
+pub wide_added : (old new : List ℤ) (z : ℤ) (k : ℕ) → new ≡ old ++ z ∷ [] → k ≡ length old → k < 4294967295 → AreLeavesGrown old new × IsWordOf new (Leaf z) (4294967296 + k)
 wide_added old new z k e n m =
     let size : length new ≡ suc (length old) = omega (arith, ap length e, length_push old z) in (
       record { rest = z ∷ []; is = e },
@@ -111,25 +111,25 @@ wide_added old new z k e n m =
 pub plain_word_of : (wide : List ℤ) (part : Part) (w : ℕ) → IsPlain w × ((wide : List ℤ) → word_part wide w ≡ part) → IsWordOf wide part w
 plain_word_of wide part w h = record { within = plain_within (length wide) w h.0; is = h.1 wide }
 
-pub grown_none : (wide : List ℤ) → IsGrown wide wide
+pub grown_none : (wide : List ℤ) → AreLeavesGrown wide wide
 grown_none wide = record { rest = []; is = sym (append-nil wide) }
 
-pub within_of_word : (wide : List ℤ) (ws : List ℕ) (view : List Part) (n k w : ℕ) → parts_of wide ws ≡ view → AreWithin n ws → k < length view → w ≡ get_or ws k w → IsWithin n w
+pub within_of_word : (wide : List ℤ) (ws : List ℕ) (view : List Part) (n k w : ℕ) → parts_of wide ws ≡ view → AreWordsWithin n ws → k < length view → w ≡ get_or ws k w → IsWideLeafWithin n w
 within_of_word wide ws view n k w v h l e a b = within_at wide ws view n k w v h l e a b
 
-pub grown_size : (wide more : List ℤ) → IsGrown wide more → length wide ≤ length more
+pub grown_size : (wide more : List ℤ) → AreLeavesGrown wide more → length wide ≤ length more
 grown_size wide more g = omega (arith, ap length g.is, length-append wide g.rest)
 
-pub parts_same : (wide more : List ℤ) (ws same : List ℕ) (view : List Part) → parts_of wide ws ≡ view → AreWithin (length wide) ws → IsGrown wide more → same ≡ ws → parts_of more same ≡ view
+pub parts_same : (wide more : List ℤ) (ws same : List ℕ) (view : List Part) → parts_of wide ws ≡ view → AreWordsWithin (length wide) ws → AreLeavesGrown wide more → same ≡ ws → parts_of more same ≡ view
 parts_same wide more ws same view v h g f = ap₂ parts_of g.is f ∙ parts_grow wide g.rest ws h ∙ v
 
-pub parts_kept : (wide more : List ℤ) (ws next : List ℕ) (view : List Part) (w : ℕ) (a : Part) → parts_of wide ws ≡ view → AreWithin (length wide) ws → IsGrown wide more → next ≡ ws ++ w ∷ [] → IsWordOf more a w → parts_of more next ≡ view ++ a ∷ []
+pub parts_kept : (wide more : List ℤ) (ws next : List ℕ) (view : List Part) (w : ℕ) (a : Part) → parts_of wide ws ≡ view → AreWordsWithin (length wide) ws → AreLeavesGrown wide more → next ≡ ws ++ w ∷ [] → IsWordOf more a w → parts_of more next ≡ view ++ a ∷ []
 parts_kept wide more ws next view w a v h g f x = parts_push more ws next w view a (parts_same wide more ws ws view v h g refl) f x.is
 
-pub within_same : (wide more : List ℤ) (ws : List ℕ) → AreWithin (length wide) ws → IsGrown wide more → AreWithin (length more) ws
+pub within_same : (wide more : List ℤ) (ws : List ℕ) → AreWordsWithin (length wide) ws → AreLeavesGrown wide more → AreWordsWithin (length more) ws
 within_same wide more ws h g k l a b = (let o : get_or ws k 0 - 4294967296 < length wide = h k l a b in omega (arith, o, grown_size wide more g))
 
-pub within_kept : (wide more : List ℤ) (ws next : List ℕ) (w : ℕ) (a : Part) → AreWithin (length wide) ws → IsGrown wide more → next ≡ ws ++ w ∷ [] → IsWordOf more a w → AreWithin (length more) next
+pub within_kept : (wide more : List ℤ) (ws next : List ℕ) (w : ℕ) (a : Part) → AreWordsWithin (length wide) ws → AreLeavesGrown wide more → next ≡ ws ++ w ∷ [] → IsWordOf more a w → AreWordsWithin (length more) next
 within_kept wide more ws next w a h g f x = within_push (length wide) (length more) ws next w (grown_size wide more g) h x.within f
 
 pub drop_first : (xs : List Part) (i : ℕ) → i < length xs → drop i xs ≡ get_or xs i (Leaf (pos 0)) ∷ drop (suc i) xs
@@ -147,6 +147,13 @@ plain_is wide more w h =
     ⊎_elim
     (λ (l : w < 4294967296). word_at wide w l ∙ sym (word_at more w l))
     (λ (l : 8589934592 ≤ w). word_leaf wide w l ∙ sym (word_leaf more w l))
+    (either w h)
+
+pub plain_low : (wide : List ℤ) (w : ℕ) → IsPlain w → w < 8589934592 → word_part wide w ≡ At w
+plain_low wide w h l =
+    ⊎_elim
+    (λ (m : w < 4294967296). word_at wide w m)
+    (λ (m : 8589934592 ≤ w). absurd (omega arith))
     (either w h)
 
 abbrev place_of : Part → ℕ

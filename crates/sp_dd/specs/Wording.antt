@@ -18,18 +18,18 @@ pub record IsPlain (w : ℕ) : Type 0 where
   pub apart : 4294967296 ≤ w → 8589934592 ≤ w
 
 -- the wide leaf of a word is among that many
-abbrev pub IsWithin : ℕ → ℕ → Type 0
-IsWithin n w = 4294967296 ≤ w → w < 8589934592 → w - 4294967296 < n
+abbrev pub IsWideLeafWithin : ℕ → ℕ → Type 0
+IsWideLeafWithin n w = 4294967296 ≤ w → w < 8589934592 → w - 4294967296 < n
 
-abbrev pub AreWithin : ℕ → List ℕ → Type 0
-AreWithin n words = (k : ℕ) → k < length words → IsWithin n (slice_index_or words k 0)
+abbrev pub AreWordsWithin : ℕ → List ℕ → Type 0
+AreWordsWithin n words = (k : ℕ) → k < length words → IsWideLeafWithin n (slice_index_or words k 0)
 
 -- more wide leaves behind the same ones
-pub record IsGrown (wide more : List ℤ) : Type 0 where
+pub record AreLeavesGrown (wide more : List ℤ) : Type 0 where
   pub rest : List ℤ
   pub is : more ≡ wide ++ rest
 
 -- a part's word
 pub record IsWordOf (wide : List ℤ) (part : Part) (w : ℕ) : Type 0 where
-  pub within : IsWithin (length wide) w
+  pub within : IsWideLeafWithin (length wide) w
   pub is : word_part wide w ≡ part

@@ -11,10 +11,12 @@ use crate::NoMemory;
 use crate::bundle::{BundleSource, walk_bundle};
 use crate::bundle_memo::BundleMemo;
 use crate::draft::Draft;
+use crate::leaves::part_of;
 use crate::memo::{Memo, State};
 use crate::nodes::Nodes;
 use crate::part::Part;
-use crate::shared::Shared;
+use crate::shared::{Shared, share};
+use crate::short::{FEW, Making, Stopped, walk_short};
 use crate::slots::Scope;
 use crate::walk::{Source, Step, walk_branch};
 use crate::words::Words;
@@ -69,19 +71,13 @@ impl Diagram {
             }
             Step::Branch(slot) => {
                 let room = source.room();
-                let mut memo = Memo::new(alloc, room)?;
-                let mut draft = Draft::new(alloc, room)?;
-                let mut stack = Words::with_room(alloc, STACK)?;
-                walk_branch(
-                    scope, source, &mut memo, &mut draft, &mut stack, state, slot,
-                )?;
-                let root = stack.get(0);
-                let nodes = Shared::new(alloc, draft.finish())?;
-                Ok(Diagram {
-                    scope: *scope,
-                    nodes,
-                    root,
-                })
+                if room > FEW {
+                    return from_branch(alloc, scope, source, state, slot, room);
+                }
+                match from_short(alloc, scope, source, state, slot, room) {
+                    Ok(made) => Ok(made),
+                    Err(Stopped) => from_branch(alloc, scope, source, state, slot, room),
+                }
             }
         }
     }
@@ -190,6 +186,73 @@ impl Diagram {
     {
         has_slot(self.nodes.nodes(), slot)
     }
+}
+
+/// The diagram of the function that a state of a source means, which branches on a slot, by a short walk.
+#[inline(always)]
+fn from_short<S: Source>(
+    alloc: Global,
+    scope: &Scope,
+    source: &S,
+    state: State,
+    slot: u64,
+    room: usize,
+) -> Result<Diagram, Stopped>
+    requires state { S.IsState source.now state }
+    requires sizes { S.sizes source.now ≡ scope.now.sizes }
+    requires slot { slot ≡ S.slot source.now state }
+    requires within { slot < length scope.now.sizes }
+    requires later { IsFromSlot slot (S.meaning source.now state) }
+    ensures { IfOk result (λ h. h ≡ function_of scope.now (λ p. S.meaning source.now state (at p))) }
+{
+    let _ = scope.slots();
+    let draft = Draft::small(alloc, room)?;
+    let mut making = Making {
+        draft,
+        tables: None,
+        left: FEW,
+    };
+    let word = walk_short(scope, source, &mut making, state, slot)?;
+    let Making { draft, .. } = making;
+    let nodes = share(alloc, draft.finish())?;
+    Ok(Diagram {
+        scope: *scope,
+        nodes,
+        root: part_of(word),
+    })
+}
+
+/// The diagram of the function that a state of a source means, which branches on a slot, with room for so many nodes.
+#[inline(never)]
+fn from_branch<S: Source>(
+    alloc: Global,
+    scope: &Scope,
+    source: &S,
+    state: State,
+    slot: u64,
+    room: usize,
+) -> Result<Diagram, NoMemory>
+    requires state { S.IsState source.now state }
+    requires sizes { S.sizes source.now ≡ scope.now.sizes }
+    requires slot { slot ≡ S.slot source.now state }
+    requires within { slot < length scope.now.sizes }
+    requires later { IsFromSlot slot (S.meaning source.now state) }
+    ensures { IfOk result (λ h. h ≡ function_of scope.now (λ p. S.meaning source.now state (at p))) }
+{
+    let _ = scope.slots();
+    let mut memo = Memo::new(alloc, room)?;
+    let mut draft = Draft::new(alloc, room)?;
+    let mut stack = Words::with_room(alloc, STACK)?;
+    walk_branch(
+        scope, source, &mut memo, &mut draft, &mut stack, state, slot,
+    )?;
+    let root = stack.get(0);
+    let nodes = share(alloc, draft.finish())?;
+    Ok(Diagram {
+        scope: *scope,
+        nodes,
+        root,
+    })
 }
 
 /// A law of each diagram: its nodes are ordered and reduced, and each stands where a walk from the root leaves it.

@@ -2,7 +2,7 @@
 ghost use Rattle.std.specs.Prelude.{◌≡◌, ◌<◌, ◌≤◌, ◌-ℤ◌, ◌+ℤ◌, ◌≤ℤ◌, ◌<ℤ◌, negsuc, pos, ℤ, [], ◌∷◌, ◌++◌, length, slice_index_or, List, OnOk, OnErr, IfOk, IfSome};
 ghost use Rattle.std.specs.Bool.{OnTrue};
 ghost use Rattle.sp_dd.specs.declared.part.Part.TheVariants.{Leaf};
-ghost use Rattle.sp_dd.specs.Wording.{word_part, IsPlain, IsWithin, IsGrown, IsWordOf};
+ghost use Rattle.sp_dd.specs.Wording.{word_part, IsPlain, IsWideLeafWithin, AreLeavesGrown, IsWordOf};
 
 use crate::NoMemory;
 use crate::part::Part;
@@ -45,7 +45,7 @@ impl Leaves {
     /// A word's part.
     #[inline(always)]
     pub fn part(&self, word: u64) -> Part
-        requires { IsWithin (length self.now) word }
+        requires { IsWideLeafWithin (length self.now) word }
         ensures { result ≡ word_part self.now word }
     {
         if word >= LEAVES {
@@ -92,7 +92,7 @@ impl Leaves {
     /// A part's word. Its leaf is added where it isn't found.
     #[inline(always)]
     pub fn keep(&mut self, part: Part) -> Result<u64, NoMemory>
-        ensures ok { IfOk result (λ w. IsGrown self.old self.new × IsWordOf self.new part w) }
+        ensures ok { IfOk result (λ w. AreLeavesGrown self.old self.new × IsWordOf self.new part w) }
         ensures err { OnErr result (self.new ≡ self.old) }
     {
         if let Some(word) = self.word(part) {
@@ -106,7 +106,7 @@ impl Leaves {
 
     #[inline(never)]
     fn add(&mut self, value: i128) -> Result<u64, NoMemory>
-        ensures ok { IfOk result (λ w. IsGrown self.old self.new × IsWordOf self.new (Leaf value) w) }
+        ensures ok { IfOk result (λ w. AreLeavesGrown self.old self.new × IsWordOf self.new (Leaf value) w) }
         ensures err { OnErr result (self.new ≡ self.old) }
     {
         let place = self.values.len();
@@ -210,4 +210,16 @@ pub fn plain_word(part: Part) -> Option<u64>
             }
         }
     }
+}
+
+/// The part of a word that says it by itself.
+#[inline(always)]
+pub fn part_of(word: u64) -> Part
+    requires { IsPlain word }
+    ensures { result ≡ word_part [] word }
+{
+    if word >= LEAVES {
+        return Part::Leaf(leaf_of(word));
+    }
+    Part::At(word as usize)
 }

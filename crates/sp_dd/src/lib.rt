@@ -19,6 +19,7 @@ mod mixing;
 mod nodes;
 mod part;
 mod shared;
+mod short;
 mod slots;
 mod walk;
 mod words;

@@ -2,7 +2,7 @@
 ghost use Rattle.std.specs.Prelude.{◌≡◌, ◌<◌, ◌↔◌, IsTrue, IfSome, IfOk, OnOk, OnErr, [], ◌∷◌, ◌++◌, length};
 ghost use Rattle.std.specs.Bool.{OnTrue};
 ghost use Rattle.sp_dd.specs.Kept.{made_entry, HasEntry, HasCell, IsCellOf};
-ghost use Rattle.sp_dd.specs.Wording.{IsGrown};
+ghost use Rattle.sp_dd.specs.Wording.{AreLeavesGrown};
 
 use crate::NoMemory;
 use crate::leaves::Leaves;
@@ -199,8 +199,8 @@ fn first_hash(choice: Choice) -> u64 {
 /// A state and its part in words.
 #[inline(always)]
 fn cell_of(leaves: &mut Leaves, state: State, part: Part) -> Result<Cell, NoMemory>
-    ensures ok { IfOk result (λ cell. IsGrown leaves.old leaves.new × IsCellOf leaves.new state part cell) }
-    ensures err { OnErr result (IsGrown leaves.old leaves.new) }
+    ensures ok { IfOk result (λ cell. AreLeavesGrown leaves.old leaves.new × IsCellOf leaves.new state part cell) }
+    ensures err { OnErr result (AreLeavesGrown leaves.old leaves.new) }
 {
     let left = leaves.keep(state.left)?;
     let right = leaves.keep(state.right)?;

@@ -3,13 +3,14 @@ ghost use Rattle.std.specs.Prelude.{◌≡◌, ◌<◌, ◌≤◌, ◌+◌, ◌�
 ghost use Rattle.sp_dd.specs.NodeLists.{Node, made_node};
 ghost use Rattle.sp_dd.specs.Ordered.{node_at, part_at};
 ghost use Rattle.sp_dd.specs.Hashes.{node_hash};
-ghost use Rattle.sp_dd.specs.Flat.{nodes_of, AreWithin};
+ghost use Rattle.sp_dd.specs.Flat.{nodes_of, ArePartsInBuffer};
+ghost use Rattle.sp_dd.specs.Wording.{word_part, IsPlain};
 ghost use Rattle.sp_dd.specs.declared.part.Part.{Part};
 
 use crate::NoMemory;
 use crate::mixing::upper;
 use crate::part::Part;
-use crate::words::Words;
+use crate::words::{Words, has_plain, push_two_plain};
 use std::alloc::Global;
 use std::marker::Model;
 
@@ -32,13 +33,13 @@ pub struct Nodes {
 impl Model for Nodes {
     ghost use Rattle.std.specs.Prelude.{List, length};
     ghost use Rattle.sp_dd.specs.NodeLists.{Node};
-    ghost use Rattle.sp_dd.specs.Flat.{nodes_of, AreWithin};
+    ghost use Rattle.sp_dd.specs.Flat.{nodes_of, ArePartsInBuffer};
 
     ghost Value = { List Node };
 
     ghost view = { λ a. nodes_of a.parts a.heads.items };
 
-    ghost invariant = { λ a. AreWithin (length a.parts) a.heads.items };
+    ghost invariant = { λ a. ArePartsInBuffer (length a.parts) a.heads.items };
 }
 
 impl Nodes {
@@ -56,9 +57,7 @@ impl Nodes {
     pub fn with_room(alloc: Global, room: usize) -> Result<Nodes, NoMemory>
         ensures { IfOk result (λ nodes. nodes ≡ []) }
     {
-        let heads = Vec::with_capacity(alloc, room)?;
-        let parts = Words::with_room(alloc, room.saturating_mul(2))?;
-        Ok(Nodes { heads, parts })
+        room_for(alloc, room)
     }
 
     /// How many nodes there are.
@@ -261,11 +260,72 @@ impl Nodes {
     }
 }
 
+/// No nodes, with room for so many of two parts.
+#[inline(always)]
+pub fn room_for(alloc: Global, count: usize) -> Result<Nodes, NoMemory>
+    ensures { IfOk result (λ nodes. nodes ≡ []) }
+{
+    let heads = Vec::with_capacity(alloc, count)?;
+    let parts = Words::with_room(alloc, count.saturating_mul(2))?;
+    Ok(Nodes { heads, parts })
+}
+
+/// One more node, with the parts of two words that say them by themselves.
+#[inline(always)]
+pub fn push_two(nodes: &mut Nodes, slot: u64, left: u64, right: u64) -> Result<(), NoMemory>
+    requires left { IsPlain left }
+    requires right { IsPlain right }
+    ensures ok { OnOk result (nodes.new ≡ nodes.old ++ made_node slot (word_part [] left ∷ word_part [] right ∷ []) ∷ []) }
+    ensures err { OnErr result (nodes.new ≡ nodes.old) }
+{
+    let from = nodes.parts.len();
+    if slot >= 256 || from >= 4294967296 {
+        return Err(NoMemory);
+    }
+    push_two_plain(&mut nodes.parts, left, right)?;
+    nodes
+        .heads
+        .push(Head {
+            slot: slot as u8,
+            uses: 0,
+            count: 2,
+            from: from as u32,
+        })
+        .map_err(|_| NoMemory)?;
+    Ok(())
+}
+
+/// Whether the node at a place has that slot and the parts of two words that say them by themselves.
+#[inline(always)]
+pub fn is_two_at(nodes: &Nodes, at: usize, slot: u64, left: u64, right: u64) -> bool
+    requires at { at < length nodes.now }
+    requires left { IsPlain left }
+    requires right { IsPlain right }
+    ensures { IsTrue result ↔ node_at nodes.now at ≡ made_node slot (word_part [] left ∷ word_part [] right ∷ []) }
+{
+    let head = nodes.heads[at];
+    if head.slot as u64 != slot {
+        return false;
+    }
+    if head.count != 2 {
+        return false;
+    }
+    same_two(&nodes.parts, head.from as usize, left, right)
+}
+
+/// Counts the part of a word that says it by itself among those that lead to its node.
+#[inline(always)]
+pub fn count_word(nodes: &mut Nodes, word: u64)
+    ensures { nodes.new ≡ nodes.old }
+{
+    count_use(&mut nodes.heads, word as usize);
+}
+
 #[inline(always)]
 fn count_uses_in(heads: &mut [Head], list: &Words, start: usize)
     requires { start ≤ length list.now }
     ensures nodes { (ps : List Part) → nodes_of ps heads.new ≡ nodes_of ps heads.old }
-    ensures within { (n : ℕ) → AreWithin n heads.old → AreWithin n heads.new }
+    ensures within { (n : ℕ) → ArePartsInBuffer n heads.old → ArePartsInBuffer n heads.new }
 {
     for i in start..list.len() {
         if let Part::At(at) = list.get(i) {
@@ -277,7 +337,7 @@ fn count_uses_in(heads: &mut [Head], list: &Words, start: usize)
 #[inline(always)]
 fn count_use(heads: &mut [Head], at: usize)
     ensures nodes { (ps : List Part) → nodes_of ps heads.new ≡ nodes_of ps heads.old }
-    ensures within { (n : ℕ) → AreWithin n heads.old → AreWithin n heads.new }
+    ensures within { (n : ℕ) → ArePartsInBuffer n heads.old → ArePartsInBuffer n heads.new }
 {
     if at < heads.len() {
         heads[at].uses = heads[at].uses.saturating_add(1);
@@ -305,6 +365,21 @@ fn same_range(
         }
     }
     true
+}
+
+/// Whether a list has the parts of two words at a place and behind it.
+#[inline(always)]
+fn same_two(words: &Words, from: usize, left: u64, right: u64) -> bool
+    requires within { from + 2 ≤ length words.now }
+    requires left { IsPlain left }
+    requires right { IsPlain right }
+    ensures { IsTrue result ↔ take 2 (drop from words.now) ≡ word_part [] left ∷ word_part [] right ∷ [] }
+{
+    let _ = words.len();
+    if !has_plain(words, from, left) {
+        return false;
+    }
+    has_plain(words, from + 1, right)
 }
 
 /// Whether a list has these parts from a place on.

@@ -29,8 +29,7 @@ impl Shared {
     pub fn new(alloc: Global, nodes: Nodes) -> Result<Shared, NoMemory>
         ensures { IfOk result (λ s. s ≡ nodes) }
     {
-        let nodes = Arc::new(alloc, nodes).map_err(|_| NoMemory)?;
-        Ok(Shared { nodes })
+        share(alloc, nodes)
     }
 
     /// One more owner, which may be refused as a growth can.
@@ -64,4 +63,13 @@ impl Shared {
     {
         self.nodes.part(at, value)
     }
+}
+
+/// The first owner of a list.
+#[inline(always)]
+pub fn share(alloc: Global, nodes: Nodes) -> Result<Shared, NoMemory>
+    ensures { IfOk result (λ s. s ≡ nodes) }
+{
+    let nodes = Arc::new(alloc, nodes).map_err(|_| NoMemory)?;
+    Ok(Shared { nodes })
 }

@@ -3,9 +3,10 @@ ghost use Rattle.std.specs.Prelude.{◌≡◌, ◌<◌, ◌≤◌, ◌↔◌, Is
 ghost use Rattle.sp_dd.specs.declared.part.Part.TheVariants.{Leaf};
 ghost use Rattle.sp_dd.specs.NodeLists.{all_are, first_part};
 ghost use Rattle.sp_dd.specs.Hashes.{part_hash};
+ghost use Rattle.sp_dd.specs.Wording.{word_part, IsPlain};
 
 use crate::NoMemory;
-use crate::leaves::{Leaves, is_plain};
+use crate::leaves::{Leaves, is_plain, part_of};
 use crate::mixing::{mix, mix_part};
 use crate::part::Part;
 use std::alloc::Global;
@@ -21,13 +22,13 @@ pub struct Words {
 impl Model for Words {
     ghost use Rattle.std.specs.Prelude.{List, length};
     ghost use Rattle.sp_dd.specs.declared.part.Part.{Part};
-    ghost use Rattle.sp_dd.specs.Wording.{parts_of, AreWithin};
+    ghost use Rattle.sp_dd.specs.Wording.{parts_of, AreWordsWithin};
 
     ghost Value = { List Part };
 
     ghost view = { λ a. parts_of a.leaves a.words.items };
 
-    ghost invariant = { λ a. AreWithin (length a.leaves) a.words.items };
+    ghost invariant = { λ a. AreWordsWithin (length a.leaves) a.words.items };
 }
 
 impl Words {
@@ -163,4 +164,54 @@ impl Words {
         }
         mix_part(hash, &self.get(at))
     }
+}
+
+/// One more part, that of a word that says it by itself.
+#[inline(always)]
+fn push_plain(words: &mut Words, word: u64) -> Result<(), NoMemory>
+    requires { IsPlain word }
+    ensures ok { OnOk result (words.new ≡ words.old ++ word_part [] word ∷ []) }
+    ensures err { OnErr result (words.new ≡ words.old) }
+{
+    words.words.push(word).map_err(|_| NoMemory)?;
+    Ok(())
+}
+
+/// Two more parts, of words that say them by themselves.
+#[inline(always)]
+pub fn push_two_plain(words: &mut Words, left: u64, right: u64) -> Result<(), NoMemory>
+    requires left { IsPlain left }
+    requires right { IsPlain right }
+    ensures ok { OnOk result (words.new ≡ words.old ++ word_part [] left ∷ word_part [] right ∷ []) }
+    ensures err { OnErr result (words.new ≡ words.old) }
+{
+    let count = words.len();
+    push_plain(words, left)?;
+    if push_plain(words, right).is_err() {
+        words.truncate(count);
+        return Err(NoMemory);
+    }
+    Ok(())
+}
+
+/// Whether a place has the part of a word that says it by itself.
+#[inline(always)]
+pub fn has_plain(words: &Words, at: usize, word: u64) -> bool
+    requires at { at < length words.now }
+    requires plain { IsPlain word }
+    ensures { IsTrue result ↔ get_or words.now at (Leaf (pos 0)) ≡ word_part [] word }
+{
+    let here = words.words[at];
+    if is_plain(here) {
+        return here == word;
+    }
+    has_part(words, at, &part_of(word))
+}
+
+#[inline(never)]
+fn has_part(words: &Words, at: usize, part: &Part) -> bool
+    requires { at < length words.now }
+    ensures { IsTrue result ↔ get_or words.now at (Leaf (pos 0)) ≡ part.now }
+{
+    words.get(at).is_same(part)
 }

@@ -13,7 +13,7 @@ use Rattle.sp_dd.proofs.FuncLemmas.{scope_some}
 use Rattle.sp_ddops.specs.declared.pairs.Op.TheVariants.{Raise}
 use Rattle.sp_ddops.specs.Pairs.{IsPair}
 use Rattle.sp_ddops.specs.StateSums.{pair_of}
-use Rattle.sp_ddops.specs.Firsts.{IsInside, AreBelow, IsFirstFrom, values_in}
+use Rattle.sp_ddops.specs.Firsts.{IsAssignment, AreBelow, IsFirstFrom, values_in}
 use Rattle.sp_ddops.proofs.CofactorLemmas.{value_from}
 use Rattle.sp_ddops.proofs.PairLemmas.{fit_root}
 use Rattle.sp_ddops.proofs.SearchLemmas.{IsLessAt, first_difference, point_from}
@@ -32,7 +32,7 @@ origin_blank n i =
 pub origin_long : (n : ℕ) → length (replicate {A = ℕ} n 0) ≡ n
 origin_long n = (let none : ℕ = 0 in length-replicate n none)
 
-point_inside : (sizes p : List ℕ) → IsPoint sizes p → IsInside sizes (at p)
+point_inside : (sizes p : List ℕ) → IsPoint sizes p → IsAssignment sizes (at p)
 point_inside sizes p w i l = within_at sizes p w i l
 
 left_value : (f : Func) (x : List ℕ) → IsPointOf f x → node_value (at x) (node_list f) (root_part f) ≡ value_of f x

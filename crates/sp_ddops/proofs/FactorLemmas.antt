@@ -14,7 +14,7 @@ use Rattle.sp_dd.specs.NodeLists.{Node, node_value}
 use Rattle.sp_dd.specs.Ordered.{height, IsBefore}
 use Rattle.sp_dd.proofs.FloorLemmas.{sum_to-mono, sum_to-times}
 use Rattle.sp_ddops.specs.declared.pair_table.PairNumber.{PairNumber}
-use Rattle.sp_ddops.specs.PairNumbers.{made_number, key_of, part_of_key, pair_of_keys, HasNumber}
+use Rattle.sp_ddops.specs.PairNumbers.{made_number, key_of, part_of_key, pair_of_keys, PairHasNumber}
 use Rattle.sp_ddops.specs.Cofactors.{slot_or}
 use Rattle.sp_ddops.specs.Pairs.{IsPair, least_slot}
 use Rattle.sp_ddops.specs.StateSums.{widths_of, sum_points, point_from, sum_over, pair_of, pair_value, unit_part, unit_pair, leaf_factor, IsLight, AreSums}
@@ -150,7 +150,7 @@ is_scaled s f g q slot z e m light d =
 keys_pair : (q : State) (l r : ℕ) → l ≡ key_of q.left → r ≡ key_of q.right → pair_of_keys (pos 1) l r ≡ unit_pair q
 keys_pair q l r d e = ap₂ pair_of (ap (part_of_key (pos 1)) d ∙ unit_key q.left) (ap (part_of_key (pos 1)) e ∙ unit_key q.right)
 
-pub number_known : (s : Shape) (f g : List Node) (es : List PairNumber) (q : State) (l r : ℕ) (z : ℤ) → AreSums s f g es → q ≡ unit_pair q → l ≡ key_of q.left → r ≡ key_of q.right → HasNumber es l r z → z ≡ sum_over (widths_of s) (least_slot s.sizes f g q) (pair_value f g q)
+pub number_known : (s : Shape) (f g : List Node) (es : List PairNumber) (q : State) (l r : ℕ) (z : ℤ) → AreSums s f g es → q ≡ unit_pair q → l ≡ key_of q.left → r ≡ key_of q.right → PairHasNumber es l r z → z ≡ sum_over (widths_of s) (least_slot s.sizes f g q) (pair_value f g q)
 number_known s f g es q l r z k u d e h =
     let P : State → Type 0 = λ p. z ≡ sum_over (widths_of s) (least_slot s.sizes f g p) (pair_value f g p) in
     subst P (keys_pair q l r d e ∙ sym u) (k l r z h)
@@ -166,7 +166,7 @@ numbers_push s f g es more q l r z k u d e w is =
     let here : P (pair_of_keys (pos 1) l r) = subst P (u ∙ sym (keys_pair q l r d e)) w in
     let one : PairNumber = made_number l r z in
     subst (λ x. AreSums s f g x) (sym is) (λ m n y h.
-    (let there : HasNumber (es ++ one ∷ []) m n y = h in
+    (let there : PairHasNumber (es ++ one ∷ []) m n y = h in
     ⊎_elim
     (λ (low : there.place < length es). k m n y (record { place = there.place; within = low; is = sym (get_or_append_left es (one ∷ []) (made_number m n y) there.place low) ∙ there.is }))
     (λ (high : length es ≤ there.place).

@@ -9,11 +9,11 @@ use Rattle.sp_dd.specs.declared.part.Part.TheVariants.{Leaf, At}
 use Rattle.sp_dd.specs.declared.memo.State.{State}
 use Rattle.sp_dd.specs.NodeLists.{Node, node_value}
 use Rattle.sp_ddops.specs.declared.pair_table.PairNumber.{PairNumber}
-use Rattle.sp_ddops.specs.PairNumbers.{made_number, key_of, part_of_key, pair_of_keys, HasNumber}
+use Rattle.sp_ddops.specs.PairNumbers.{made_number, key_of, part_of_key, pair_of_keys, PairHasNumber}
 use Rattle.sp_ddops.specs.Cofactors.{leaf_of, cofactor_of}
 use Rattle.sp_ddops.specs.Pairs.{IsPair, least_slot, state_cofactor}
 use Rattle.sp_ddops.specs.StateSums.{pair_of}
-use Rattle.sp_ddops.specs.Firsts.{IsInside, AreBelow, IsFirstFrom, leaf_number, AreNowhere}
+use Rattle.sp_ddops.specs.Firsts.{IsAssignment, AreBelow, IsFirstFrom, leaf_number, AreNowhere}
 use Rattle.sp_ddops.proofs.CofactorLemmas.{value_from, cofactor_value, IsCofactor, is_cofactor, is_leaf}
 
 -- ---- a step
@@ -25,7 +25,7 @@ right_cofactor : (sizes : List ℕ) (f g : List Node) (q : State) (s v : ℕ) �
 right_cofactor sizes f g q s v h π e = cofactor_value sizes g h.right q.right h.right_before s v π e
 
 -- a pair is below where it is for each value of a slot
-below_at : (sizes : List ℕ) (f g : List Node) (q : State) (s v : ℕ) → IsPair sizes f g q → AreBelow sizes f g (state_cofactor f g s v q) → (π : ℕ → ℕ) → IsInside sizes π → π s ≡ v → node_value π f q.left ≤ℤ node_value π g q.right
+below_at : (sizes : List ℕ) (f g : List Node) (q : State) (s v : ℕ) → IsPair sizes f g q → AreBelow sizes f g (state_cofactor f g s v q) → (π : ℕ → ℕ) → IsAssignment sizes π → π s ≡ v → node_value π f q.left ≤ℤ node_value π g q.right
 unfolding AreBelow
 below_at sizes f g q s v h b π i e =
     subst₂ (λ x y. x ≤ℤ y) (sym (left_cofactor sizes f g q s v h π e)) (sym (right_cofactor sizes f g q s v h π e)) (b π i)
@@ -105,21 +105,21 @@ leaf_more : (sizes : List ℕ) (f g : List Node) (y z : ℤ) (a : Part) → z �
 unfolding AreBelow
 leaf_more sizes f g y z a l h π i = omega (arith, ints, l, h π i, node_leaf π g y, node_leaf π g z)
 
-pub leaf_left_known : (b : Bool) (sizes : List ℕ) (f g : List Node) (es : List PairNumber) (q : State) (l r j : ℕ) (x z : ℤ) → AreNowhere sizes f g es → HasNumber es l r z → l ≡ key_of q.left → r ≡ key_of q.right → q.left ≡ Leaf x → q.right ≡ At j → OnFalse b (x ≤ℤ z) → b ≡ false → AreBelow sizes f g q
+pub leaf_left_known : (b : Bool) (sizes : List ℕ) (f g : List Node) (es : List PairNumber) (q : State) (l r j : ℕ) (x z : ℤ) → AreNowhere sizes f g es → PairHasNumber es l r z → l ≡ key_of q.left → r ≡ key_of q.right → q.left ≡ Leaf x → q.right ≡ At j → OnFalse b (x ≤ℤ z) → b ≡ false → AreBelow sizes f g q
 unfolding AreBelow
 leaf_left_known true sizes f g es q l r j x z k h d e a c o t = absurd (false≢true (sym t))
 leaf_left_known false sizes f g es q l r j x z k h d e a c o t =
     let pair : pair_of_keys z l r ≡ pair_of (Leaf z) (At j) = ap₂ pair_of (ap (part_of_key z) (d ∙ ap key_of a)) (ap (part_of_key z) (e ∙ ap key_of c)) in
     subst₂ (λ u v. AreBelow sizes f g (pair_of u v)) (sym a) (sym c) (leaf_less sizes f g x z (At j) o (subst (AreBelow sizes f g) pair (k l r z h)))
 
-pub leaf_right_known : (b : Bool) (sizes : List ℕ) (f g : List Node) (es : List PairNumber) (q : State) (l r i : ℕ) (y z : ℤ) → AreNowhere sizes f g es → HasNumber es l r z → l ≡ key_of q.left → r ≡ key_of q.right → q.left ≡ At i → q.right ≡ Leaf y → OnFalse b (z ≤ℤ y) → b ≡ false → AreBelow sizes f g q
+pub leaf_right_known : (b : Bool) (sizes : List ℕ) (f g : List Node) (es : List PairNumber) (q : State) (l r i : ℕ) (y z : ℤ) → AreNowhere sizes f g es → PairHasNumber es l r z → l ≡ key_of q.left → r ≡ key_of q.right → q.left ≡ At i → q.right ≡ Leaf y → OnFalse b (z ≤ℤ y) → b ≡ false → AreBelow sizes f g q
 unfolding AreBelow
 leaf_right_known true sizes f g es q l r i y z k h d e a c o t = absurd (false≢true (sym t))
 leaf_right_known false sizes f g es q l r i y z k h d e a c o t =
     let pair : pair_of_keys z l r ≡ pair_of (At i) (Leaf z) = ap₂ pair_of (ap (part_of_key z) (d ∙ ap key_of a)) (ap (part_of_key z) (e ∙ ap key_of c)) in
     subst₂ (λ u v. AreBelow sizes f g (pair_of u v)) (sym a) (sym c) (leaf_more sizes f g y z (At i) o (subst (AreBelow sizes f g) pair (k l r z h)))
 
-pub nodes_known : (sizes : List ℕ) (f g : List Node) (es : List PairNumber) (q : State) (l r i j : ℕ) (z : ℤ) → AreNowhere sizes f g es → HasNumber es l r z → l ≡ key_of q.left → r ≡ key_of q.right → q.left ≡ At i → q.right ≡ At j → AreBelow sizes f g q
+pub nodes_known : (sizes : List ℕ) (f g : List Node) (es : List PairNumber) (q : State) (l r i j : ℕ) (z : ℤ) → AreNowhere sizes f g es → PairHasNumber es l r z → l ≡ key_of q.left → r ≡ key_of q.right → q.left ≡ At i → q.right ≡ At j → AreBelow sizes f g q
 unfolding AreBelow
 nodes_known sizes f g es q l r i j z k h d e a c =
     let pair : pair_of_keys z l r ≡ pair_of (At i) (At j) = ap₂ pair_of (ap (part_of_key z) (d ∙ ap key_of a)) (ap (part_of_key z) (e ∙ ap key_of c)) in
@@ -145,7 +145,7 @@ nowhere_push sizes f g es more q l r z k m b d e w is =
     let here : AreBelow sizes f g (pair_of_keys z l r) = subst (AreBelow sizes f g) (sym pair) b in
     let one : PairNumber = made_number l r z in
     subst (λ x. AreNowhere sizes f g x) (sym is) (λ m n y h.
-    (let there : HasNumber (es ++ one ∷ []) m n y = h in
+    (let there : PairHasNumber (es ++ one ∷ []) m n y = h in
     ⊎_elim
     (λ (low : there.place < length es). k m n y (record { place = there.place; within = low; is = sym (get_or_append_left es (one ∷ []) (made_number m n y) there.place low) ∙ there.is }))
     (λ (high : length es ≤ there.place).

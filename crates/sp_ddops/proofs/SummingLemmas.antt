@@ -31,7 +31,7 @@ use Rattle.sp_dd.specs.Ordered.{node_at, part_at, IsBefore, IsOrdered}
 use Rattle.sp_dd.specs.Walks.{IsFromSlot, with_slot}
 use Rattle.sp_dd.proofs.Steps.{with_same, with_step, with_other_step}
 use Rattle.sp_ddops.specs.Cofactors.{slot_or, leaf_of, cofactor_of}
-use Rattle.sp_ddops.specs.Sums.{total, leaf_total, least_of, paired, cofactors, spread_to, ArePairs, IsSmall, AreSmall, AreLight, finished, sum_meaning, IsSummed, IsSumOf, IsSumBundle, IsSettled}
+use Rattle.sp_ddops.specs.Sums.{total, leaf_total, least_of, pairs_with, cofactors, spread_to, ArePairs, IsPartWithin, ArePartsWithin, AreLight, sum_or_floor, sum_meaning, IsSumWalk, IsSumOf, IsSumBundle, IsBundleSum}
 use Rattle.sp_ddops.proofs.CofactorLemmas.{within-set, value_from, cofactor_value, is_cofactor, is_leaf}
 use Rattle.sp_ddops.proofs.FixedLemmas.{point_step, is_below}
 
@@ -71,7 +71,7 @@ total_paired_step false true f g a b ps π e d = second_zero (node_value π f a)
     second_zero x y z k = sym (ap (λ w. (x *ℤ w) +ℤ z) k ∙ omega (arith, ints))
 total_paired_step false false f g a b ps π e d = refl
 
-total_paired : (f g : List Node) (a b : Part) (ps : List Part) (π : ℕ → ℕ) → total f g (paired a b ps) π ≡ (node_value π f a *ℤ node_value π g b) +ℤ total f g ps π
+total_paired : (f g : List Node) (a b : Part) (ps : List Part) (π : ℕ → ℕ) → total f g (pairs_with a b ps) π ≡ (node_value π f a *ℤ node_value π g b) +ℤ total f g ps π
 total_paired f g a b ps π = total_paired_step (same_part a (Leaf (pos 0))) (same_part b (Leaf (pos 0))) f g a b ps π refl refl
 
 paired_step : (t : Bool) (xs ps : List Part) (a b : Part) → (xs ++ cond t [] (a ∷ b ∷ [])) ++ ps ≡ xs ++ cond t ps (a ∷ b ∷ ps)
@@ -79,7 +79,7 @@ paired_step true xs ps a b = ap (λ l. l ++ ps) (append-nil xs)
 paired_step false xs ps a b = append_assoc xs (a ∷ b ∷ []) ps
 
 -- one more pair behind a list
-pub paired_more : (xs ps : List Part) (a b : Part) → (xs ++ paired a b []) ++ ps ≡ xs ++ paired a b ps
+pub paired_more : (xs ps : List Part) (a b : Part) → (xs ++ pairs_with a b []) ++ ps ≡ xs ++ pairs_with a b ps
 paired_more xs ps a b = paired_step (same_part a (Leaf (pos 0)) || same_part b (Leaf (pos 0))) xs ps a b
 
 -- ---- what holds of pairs holds where a slot has a value
@@ -88,7 +88,7 @@ pairs_paired_step : (t : Bool) (f g : List Node) (a b : Part) (ps : List Part) �
 pairs_paired_step true f g a b ps h k l = l
 pairs_paired_step false f g a b ps h k l = (h, k, l)
 
-small_paired_step : (t : Bool) (m n : ℕ) (a b : Part) (ps : List Part) → IsSmall m a → IsSmall n b → AreSmall m n ps → AreSmall m n (cond t ps (a ∷ b ∷ ps))
+small_paired_step : (t : Bool) (m n : ℕ) (a b : Part) (ps : List Part) → IsPartWithin m a → IsPartWithin n b → ArePartsWithin m n ps → ArePartsWithin m n (cond t ps (a ∷ b ∷ ps))
 small_paired_step true m n a b ps h k l = l
 small_paired_step false m n a b ps h k l = (h, k, l)
 
@@ -106,15 +106,15 @@ pairs_cofactors sizes f g o q s v (a ∷ []) h = tt
 pairs_cofactors sizes f g o q s v (a ∷ b ∷ ps) h =
     pairs_paired_step (same_part (cofactor_of f s v a) (Leaf (pos 0)) || same_part (cofactor_of g s v b) (Leaf (pos 0))) f g _ _ _ (is_below sizes f o s v a h.0).before (is_below sizes g q s v b h.1).before (pairs_cofactors sizes f g o q s v ps h.2)
 
-small_cofactor_step : (t : Bool) (m : ℕ) (f : List Node) (v i : ℕ) → IsSmall m (part_at f i v) → IsSmall m (cond t (part_at f i v) (At i))
+small_cofactor_step : (t : Bool) (m : ℕ) (f : List Node) (v i : ℕ) → IsPartWithin m (part_at f i v) → IsPartWithin m (cond t (part_at f i v) (At i))
 small_cofactor_step true m f v i h = h
 small_cofactor_step false m f v i h = tt
 
-small_cofactor : (m : ℕ) (f : List Node) → ((k v : ℕ) → k < length f → IsSmall m (part_at f k v)) → (s v : ℕ) (a : Part) → IsBefore (length f) a → IsSmall m a → IsSmall m (cofactor_of f s v a)
+small_cofactor : (m : ℕ) (f : List Node) → ((k v : ℕ) → k < length f → IsPartWithin m (part_at f k v)) → (s v : ℕ) (a : Part) → IsBefore (length f) a → IsPartWithin m a → IsPartWithin m (cofactor_of f s v a)
 small_cofactor m f h s v (Leaf z) b k = k
 small_cofactor m f h s v (At i) b k = small_cofactor_step (nat_eq (node_at f i).slot s) m f v i (h i v b)
 
-pub small_cofactors : (m n : ℕ) (f g : List Node) → ((k v : ℕ) → k < length f → IsSmall m (part_at f k v)) → ((k v : ℕ) → k < length g → IsSmall n (part_at g k v)) → (s v : ℕ) (ps : List Part) → ArePairs f g ps → AreSmall m n ps → AreSmall m n (cofactors f g s v ps)
+pub small_cofactors : (m n : ℕ) (f g : List Node) → ((k v : ℕ) → k < length f → IsPartWithin m (part_at f k v)) → ((k v : ℕ) → k < length g → IsPartWithin n (part_at g k v)) → (s v : ℕ) (ps : List Part) → ArePairs f g ps → ArePartsWithin m n ps → ArePartsWithin m n (cofactors f g s v ps)
 small_cofactors m n f g x y s v [] h k = tt
 small_cofactors m n f g x y s v (a ∷ []) h k = tt
 small_cofactors m n f g x y s v (a ∷ b ∷ ps) h k =
@@ -172,7 +172,7 @@ pairs_append f g [] qs h k = k
 pairs_append f g (a ∷ []) qs h k = absurd h
 pairs_append f g (a ∷ b ∷ ps) qs h k = (h.0, h.1, pairs_append f g ps qs h.2 k)
 
-small_append : (f g : List Node) (m n : ℕ) (ps qs : List Part) → ArePairs f g ps → AreSmall m n ps → AreSmall m n qs → AreSmall m n (ps ++ qs)
+small_append : (f g : List Node) (m n : ℕ) (ps qs : List Part) → ArePairs f g ps → ArePartsWithin m n ps → ArePartsWithin m n qs → ArePartsWithin m n (ps ++ qs)
 small_append f g m n [] qs e h k = k
 small_append f g m n (a ∷ []) qs e h k = absurd e
 small_append f g m n (a ∷ b ∷ ps) qs e h k = (h.0, h.1, small_append f g m n ps qs e.2 h.2 k)
@@ -192,13 +192,13 @@ total_append f g (a ∷ b ∷ ps) qs e π =
 
 pub record IsSpread (sizes : List ℕ) (at : ℕ) (f g : List Node) (m n k s : ℕ) (ps : List Part) : Type 0 where
   pub pairs : ArePairs f g (spread_to f g at k ps)
-  pub small : AreSmall m n (spread_to f g at k ps)
+  pub small : ArePartsWithin m n (spread_to f g at k ps)
   pub few : length (spread_to f g at k ps) ≤ k * length ps
   pub low : s ≤ least_of (length sizes) f g (spread_to f g at k ps)
   pub behind : suc at ≤ least_of (length sizes) f g (spread_to f g at k ps)
   pub total : (π : ℕ → ℕ) → sum_to k (λ v. total f g ps (with_slot at v π)) ≡ total f g (spread_to f g at k ps) π
 
-pub is_spread : (sizes : List ℕ) (at : ℕ) (f g : List Node) → (t : IsSummed sizes at f g) → (low : ℕ) (ps : List Part) → ArePairs f g ps → AreSmall t.most_left t.most_right ps → at ≤ least_of (length sizes) f g ps → low ≤ length sizes → low ≤ least_of (length sizes) f g ps → (k : ℕ) → IsSpread sizes at f g t.most_left t.most_right k low ps
+pub is_spread : (sizes : List ℕ) (at : ℕ) (f g : List Node) → (t : IsSumWalk sizes at f g) → (low : ℕ) (ps : List Part) → ArePairs f g ps → ArePartsWithin t.most_left t.most_right ps → at ≤ least_of (length sizes) f g ps → low ≤ length sizes → low ≤ least_of (length sizes) f g ps → (k : ℕ) → IsSpread sizes at f g t.most_left t.most_right k low ps
 is_spread sizes at f g t low ps h s l j d zero = record { pairs = tt; small = tt; few = omega arith; low = j; behind = t.within; total = λ π. refl }
 is_spread sizes at f g t low ps h s l j d (suc k) =
     let r : IsSpread sizes at f g t.most_left t.most_right k low ps = is_spread sizes at f g t low ps h s l j d k in
@@ -258,16 +258,16 @@ pub record IsPushed (f g : List Node) (s v : ℕ) (first more : List Part) (end 
   pub made : more ++ cofactors f g s v (drop j (take end first)) ≡ first ++ cofactors f g s v (drop start (take end first))
   pub pairs : ArePairs f g (drop j (take end first))
 
-pub is_pushed : (f g : List Node) (s v : ℕ) (first now more : List Part) (end start i k j : ℕ) (x y a b : Part) → end ≤ length first → 1 < end - i → k ≡ i + 1 → j ≡ i + 2 → length first ≤ length now → take (length first) now ≡ first → x ≡ get_or now i x → y ≡ get_or now k y → a ≡ cofactor_of f s v x → b ≡ cofactor_of g s v y → more ≡ now ++ paired a b [] → now ++ cofactors f g s v (drop i (take end first)) ≡ first ++ cofactors f g s v (drop start (take end first)) → ArePairs f g (drop i (take end first)) → IsPushed f g s v first more end start j
+pub is_pushed : (f g : List Node) (s v : ℕ) (first now more : List Part) (end start i k j : ℕ) (x y a b : Part) → end ≤ length first → 1 < end - i → k ≡ i + 1 → j ≡ i + 2 → length first ≤ length now → take (length first) now ≡ first → x ≡ get_or now i x → y ≡ get_or now k y → a ≡ cofactor_of f s v x → b ≡ cofactor_of g s v y → more ≡ now ++ pairs_with a b [] → now ++ cofactors f g s v (drop i (take end first)) ≡ first ++ cofactors f g s v (drop start (take end first)) → ArePairs f g (drop i (take end first)) → IsPushed f g s v first more end start j
 is_pushed f g s v first now more end start i k j x y a b l m q r n h e d p o w z c =
     let xs : List Part = take end first in
     let size : length xs ≡ end = omega (arith, length-take end first) in
     let here : drop i xs ≡ x ∷ y ∷ drop j xs = two_here xs i k j x y (omega (arith, size)) q r (item_was first now end i x l (omega arith) h e) (item_was first now end k y l (omega arith) h d) in
     let rest : List Part = cofactors f g s v (drop j xs) in
     record {
-      long = omega (arith, ap length w, length-append now (paired a b []));
-      kept = ap (take (length first)) w ∙ take-append-le (length first) now (paired a b []) n ∙ h;
-      made = ap (λ l. l ++ rest) w ∙ paired_more now rest a b ∙ ap₂ (λ t u. now ++ paired t u rest) p o ∙ ap (λ l. now ++ cofactors f g s v l) (sym here) ∙ z;
+      long = omega (arith, ap length w, length-append now (pairs_with a b []));
+      kept = ap (take (length first)) w ∙ take-append-le (length first) now (pairs_with a b []) n ∙ h;
+      made = ap (λ l. l ++ rest) w ∙ paired_more now rest a b ∙ ap₂ (λ t u. now ++ pairs_with t u rest) p o ∙ ap (λ l. now ++ cofactors f g s v l) (sym here) ∙ z;
       pairs = let P : List Part → Type 0 = λ l. ArePairs f g l in (subst P here c).2;
     }
 
@@ -342,11 +342,11 @@ plus_none z w t e h = omega (arith, ints, e, h)
 pub sum_all : (xs : List Part) (start i : ℕ) (sum : ℤ) → length xs - i ≤ 1 → sum +ℤ leaf_total (drop i xs) ≡ leaf_total (drop start xs) → sum ≡ leaf_total (drop start xs)
 sum_all xs start i sum l h = plus_none sum (leaf_total (drop i xs)) (leaf_total (drop start xs)) (short_total (drop i xs) (omega (arith, length-drop i xs))) h
 
-small_leaf : (m : ℕ) (a : Part) → IsSmall m a → unsigned_abs (leaf_of a) ≤ m
+small_leaf : (m : ℕ) (a : Part) → IsPartWithin m a → unsigned_abs (leaf_of a) ≤ m
 small_leaf m (Leaf z) h = h
 small_leaf m (At i) h = omega arith
 
-pub light_small : (m n : ℕ) → m * n ≤ 2 ^ 100 → (ps : List Part) → AreSmall m n ps → AreLight ps
+pub light_small : (m n : ℕ) → m * n ≤ 2 ^ 100 → (ps : List Part) → ArePartsWithin m n ps → AreLight ps
 light_small m n l [] h = tt
 light_small m n l (a ∷ []) h = tt
 light_small m n l (a ∷ b ∷ ps) h =
@@ -368,13 +368,13 @@ lt_false a b l = not_true (nat_lt a b) (λ e. absurd (omega (arith, (Decides-ltb
 lt_true : (a b : ℕ) → a < b → nat_lt a b ≡ true
 lt_true a b l = (Decides-ltb a b).1 l
 
-pub meaning_leaf : (mean : Bool) (sizes : List ℕ) (at : ℕ) (f g : List Node) (ps : List Part) (z : ℤ) → IsSumOf sizes at f g false ps → length sizes ≤ least_of (length sizes) f g ps → z ≡ finished mean (leaf_total ps) → (π : ℕ → ℕ) → sum_meaning mean sizes at f g false ps π ≡ z
+pub meaning_leaf : (mean : Bool) (sizes : List ℕ) (at : ℕ) (f g : List Node) (ps : List Part) (z : ℤ) → IsSumOf sizes at f g false ps → length sizes ≤ least_of (length sizes) f g ps → z ≡ sum_or_floor mean (leaf_total ps) → (π : ℕ → ℕ) → sum_meaning mean sizes at f g false ps π ≡ z
 unfolding sum_meaning
-meaning_leaf mean sizes at f g ps z h l e π = ap (finished mean) (total_leaves sizes f g h.tables.left h.tables.right ps h.pairs l π) ∙ sym e
+meaning_leaf mean sizes at f g ps z h l e π = ap (sum_or_floor mean) (total_leaves sizes f g h.tables.left h.tables.right ps h.pairs l π) ∙ sym e
 
 behind_from : (mean : Bool) (sizes : List ℕ) (at : ℕ) (f g : List Node) (ps : List Part) (s : ℕ) → IsSumOf sizes at f g false ps → s ≤ least_of (length sizes) f g ps → IsFromSlot s (sum_meaning mean sizes at f g false ps)
 unfolding sum_meaning
-behind_from mean sizes at f g ps s h l π ρ e = ap (finished mean) (total_from sizes f g h.tables.left h.tables.right s ps h.pairs l π ρ e)
+behind_from mean sizes at f g ps s h l π ρ e = ap (sum_or_floor mean) (total_from sizes f g h.tables.left h.tables.right s ps h.pairs l π ρ e)
 
 sum_same : (n : ℕ) (a b : ℕ → ℤ) → ((v : ℕ) → a v ≡ b v) → sum_to n a ≡ sum_to n b
 sum_same zero a b h = refl
@@ -383,10 +383,10 @@ sum_same (suc n) a b h = add_same (sum_same n a b h) (h n)
 before_from : (mean : Bool) (sizes : List ℕ) (at : ℕ) (f g : List Node) (ps : List Part) (s : ℕ) → IsSumOf sizes at f g true ps → s ≤ least_of (length sizes) f g ps → IsFromSlot s (sum_meaning mean sizes at f g true ps)
 unfolding sum_meaning
 before_from mean sizes at f g ps s h l π ρ e =
-    ap (finished mean) (sum_same (get_or sizes at 0) _ _ (λ v.
+    ap (sum_or_floor mean) (sum_same (get_or sizes at 0) _ _ (λ v.
     total_from sizes f g h.tables.left h.tables.right s ps h.pairs l (with_slot at v π) (with_slot at v ρ) (λ t k. with_step (nat_eq t at) at v t (π t) (ρ t) refl (λ ne. e t k))))
 
-settled_step : (t before : Bool) (mean : Bool) (sizes : List ℕ) (at : ℕ) (f g : List Node) (ps : List Part) (s : ℕ) → nat_lt s at ≡ t → t ≡ before → IsSumOf sizes at f g before ps → s ≡ least_of (length sizes) f g ps → s < length sizes → IsFromSlot s (sum_meaning mean sizes at f g before ps) → IsSettled mean sizes at f g before ps (made_node s ps)
+settled_step : (t before : Bool) (mean : Bool) (sizes : List ℕ) (at : ℕ) (f g : List Node) (ps : List Part) (s : ℕ) → nat_lt s at ≡ t → t ≡ before → IsSumOf sizes at f g before ps → s ≡ least_of (length sizes) f g ps → s < length sizes → IsFromSlot s (sum_meaning mean sizes at f g before ps) → IsBundleSum mean sizes at f g before ps (made_node s ps)
 settled_step t before mean sizes at f g ps s e d h k l q =
     let here : before ≡ nat_lt s at = sym (e ∙ d) in
     let I : Bool → Type 0 = λ b. IsSumOf sizes at f g b ps in
@@ -399,12 +399,12 @@ settled_step t before mean sizes at f g ps s e d h k l q =
       same = λ π. ap (λ b. sum_meaning mean sizes at f g b ps π) here;
     }
 
-pub settled_behind : (mean : Bool) (sizes : List ℕ) (at : ℕ) (f g : List Node) (ps : List Part) (s : ℕ) → IsSumOf sizes at f g false ps → s ≡ least_of (length sizes) f g ps → s < length sizes → IsSettled mean sizes at f g false ps (made_node s ps)
+pub settled_behind : (mean : Bool) (sizes : List ℕ) (at : ℕ) (f g : List Node) (ps : List Part) (s : ℕ) → IsSumOf sizes at f g false ps → s ≡ least_of (length sizes) f g ps → s < length sizes → IsBundleSum mean sizes at f g false ps (made_node s ps)
 settled_behind mean sizes at f g ps s h k l =
     let behind : at < least_of (length sizes) f g ps = h.behind refl in
     settled_step (nat_lt s at) false mean sizes at f g ps s refl (lt_false s at (omega (arith, behind, k))) h k l (behind_from mean sizes at f g ps s h (omega (arith, k)))
 
-pub settled_before : (mean : Bool) (sizes : List ℕ) (at : ℕ) (f g : List Node) (ps : List Part) (s : ℕ) → IsSumOf sizes at f g true ps → s ≡ least_of (length sizes) f g ps → s < at → IsSettled mean sizes at f g true ps (made_node s ps)
+pub settled_before : (mean : Bool) (sizes : List ℕ) (at : ℕ) (f g : List Node) (ps : List Part) (s : ℕ) → IsSumOf sizes at f g true ps → s ≡ least_of (length sizes) f g ps → s < at → IsBundleSum mean sizes at f g true ps (made_node s ps)
 settled_before mean sizes at f g ps s h k l =
     settled_step (nat_lt s at) true mean sizes at f g ps s refl (lt_true s at l) h k (omega (arith, h.tables.within, l)) (before_from mean sizes at f g ps s h (omega (arith, k)))
 
@@ -430,13 +430,13 @@ spread_sum mean sizes at f g ps h l =
         behind = λ e. omega (arith, r.behind);
       };
       low = r.low;
-      same = λ π. ap (finished mean) (r.total π);
+      same = λ π. ap (sum_or_floor mean) (r.total π);
     }
   where
     spread_most : (n k c : ℕ) → c ≤ n * k → n ≤ 64 → k ≤ 2 → c ≤ 128
     spread_most n k c h l m = le_trans h (le_trans (mul-le-mul_right k l) (mul-le-mul_left 64 m))
 
-pub settled_spread : (mean : Bool) (sizes : List ℕ) (at : ℕ) (f g : List Node) (ps qs : List Part) (c : Node) → IsSpreadSum mean sizes at f g ps qs → IsSettled mean sizes at f g false qs c → IsSettled mean sizes at f g true ps c
+pub settled_spread : (mean : Bool) (sizes : List ℕ) (at : ℕ) (f g : List Node) (ps qs : List Part) (c : Node) → IsSpreadSum mean sizes at f g ps qs → IsBundleSum mean sizes at f g false qs c → IsBundleSum mean sizes at f g true ps c
 settled_spread mean sizes at f g ps qs c h k =
     record { bundle = k.bundle; within = k.within; later = omega (arith, h.low, k.later); from = k.from; same = λ π. h.same π ∙ k.same π }
 
@@ -444,7 +444,7 @@ settled_spread mean sizes at f g ps qs c h k =
 
 pub next_sum : (sizes : List ℕ) (at : ℕ) (f g : List Node) (b : Node) (v : ℕ) → IsSumBundle sizes at f g b → b.slot < length sizes → IsSumOf sizes at f g (nat_lt b.slot at) (cofactors f g b.slot v b.parts)
 next_sum sizes at f g b v h l =
-    let t : IsSummed sizes at f g = h.sum.tables in
+    let t : IsSumWalk sizes at f g = h.sum.tables in
     record {
       tables = t;
       pairs = pairs_cofactors sizes f g t.left t.right b.slot v b.parts h.sum.pairs;
@@ -456,16 +456,16 @@ next_sum sizes at f g b v h l =
 next_same_step : (before : Bool) (mean : Bool) (sizes : List ℕ) (at : ℕ) (f g : List Node) (s v : ℕ) (ps : List Part) → IsOrdered sizes f → IsOrdered sizes g → ArePairs f g ps → (before ≡ true → s < at) → (π : ℕ → ℕ) → π s ≡ v → sum_meaning mean sizes at f g before ps π ≡ sum_meaning mean sizes at f g before (cofactors f g s v ps) π
 unfolding sum_meaning
 next_same_step true mean sizes at f g s v ps o q h l π e =
-    ap (finished mean) (sum_same (get_or sizes at 0) _ _ (λ u. total_cofactors sizes f g o q s v ps h (with_slot at u π) (with_other_step (nat_eq s at) at u s (π s) refl (λ r. absurd (omega (arith, l refl, r))) ∙ e)))
-next_same_step false mean sizes at f g s v ps o q h l π e = ap (finished mean) (total_cofactors sizes f g o q s v ps h π e)
+    ap (sum_or_floor mean) (sum_same (get_or sizes at 0) _ _ (λ u. total_cofactors sizes f g o q s v ps h (with_slot at u π) (with_other_step (nat_eq s at) at u s (π s) refl (λ r. absurd (omega (arith, l refl, r))) ∙ e)))
+next_same_step false mean sizes at f g s v ps o q h l π e = ap (sum_or_floor mean) (total_cofactors sizes f g o q s v ps h π e)
 
 pub next_same : (mean : Bool) (sizes : List ℕ) (at : ℕ) (f g : List Node) (b : Node) (v : ℕ) → IsSumBundle sizes at f g b → (π : ℕ → ℕ) → π b.slot ≡ v → sum_meaning mean sizes at f g (nat_lt b.slot at) b.parts π ≡ sum_meaning mean sizes at f g (nat_lt b.slot at) (cofactors f g b.slot v b.parts) π
 next_same mean sizes at f g b v h π e =
     next_same_step (nat_lt b.slot at) mean sizes at f g b.slot v b.parts h.sum.tables.left h.sum.tables.right h.sum.pairs (λ t. (Decides-ltb b.slot at).0 t) π e
 
-pub next_settled : (mean : Bool) (sizes : List ℕ) (at : ℕ) (f g : List Node) (b : Node) (v : ℕ) (c : Node) → IsSumBundle sizes at f g b → b.slot < length sizes → IsSettled mean sizes at f g (nat_lt b.slot at) (cofactors f g b.slot v b.parts) c → IsNextBundle sizes (λ d. sum_meaning mean sizes at f g (nat_lt d.slot at) d.parts) (IsSumBundle sizes at f g) b v c
+pub next_settled : (mean : Bool) (sizes : List ℕ) (at : ℕ) (f g : List Node) (b : Node) (v : ℕ) (c : Node) → IsSumBundle sizes at f g b → b.slot < length sizes → IsBundleSum mean sizes at f g (nat_lt b.slot at) (cofactors f g b.slot v b.parts) c → IsNextBundle sizes (λ d. sum_meaning mean sizes at f g (nat_lt d.slot at) d.parts) (IsSumBundle sizes at f g) b v c
 next_settled mean sizes at f g b v c h l k =
-    let t : IsSummed sizes at f g = h.sum.tables in
+    let t : IsSumWalk sizes at f g = h.sum.tables in
     record {
       bundle = k.bundle;
       within = k.within;
@@ -516,7 +516,7 @@ branch_map (Branch s) P Q m h = m s h
 
 -- ---- the sum over a slot's values of two functions
 
-small_of : (m : ℕ) (a : Part) → ((z : ℤ) → a ≡ Leaf z → unsigned_abs z ≤ m) → IsSmall m a
+small_of : (m : ℕ) (a : Part) → ((z : ℤ) → a ≡ Leaf z → unsigned_abs z ≤ m) → IsPartWithin m a
 small_of m (Leaf z) h = h z refl
 small_of m (At i) h = tt
 
@@ -529,14 +529,14 @@ zero_small m z e = omega (arith, ints, e)
 leaf_same : (y z : ℤ) → Leaf y ≡ Leaf z → y ≡ z
 leaf_same y z e = cc
 
-small_nodes : (f : Func) (m : ℕ) → IsScope f.shape → Everywhere f (λ v. unsigned_abs v ≤ m) → (k v : ℕ) → k < length (node_list f) → IsSmall m (part_at (node_list f) k v)
+small_nodes : (f : Func) (m : ℕ) → IsScope f.shape → Everywhere f (λ v. unsigned_abs v ≤ m) → (k v : ℕ) → k < length (node_list f) → IsPartWithin m (part_at (node_list f) k v)
 small_nodes f m c h k v l =
     small_of m (part_at (node_list f) k v) (λ z e. ⊎_elim
     (λ (in_node : v < length (node_at (node_list f) k).parts). attained_small f m z h (leaf_attained f c k v z l in_node e))
     (λ (past : length (node_at (node_list f) k).parts ≤ v). zero_small m z (leaf_same (pos 0) z (sym (get_or_past (node_at (node_list f) k).parts v (Leaf (pos 0)) past) ∙ e)))
     (cases_lt v (length (node_at (node_list f) k).parts)))
 
-small_root : (f : Func) (m : ℕ) → IsScope f.shape → Everywhere f (λ v. unsigned_abs v ≤ m) → IsSmall m (root_part f)
+small_root : (f : Func) (m : ℕ) → IsScope f.shape → Everywhere f (λ v. unsigned_abs v ≤ m) → IsPartWithin m (root_part f)
 small_root f m c h = small_of m (root_part f) (λ z e. attained_small f m z h (root_attained f c z e))
 
 -- a function where a slot has a value, by its root

@@ -10,7 +10,7 @@ abbrev pub made_number : ℕ → ℕ → ℤ → PairNumber
 made_number l r z = record { left = l; right = r; number = z }
 
 -- a pair of keys has that number
-pub record HasNumber (entries : List PairNumber) (l r : ℕ) (z : ℤ) : Type 0 where
+pub record PairHasNumber (entries : List PairNumber) (l r : ℕ) (z : ℤ) : Type 0 where
   pub place : ℕ
   pub within : place < length entries
   pub is : slice_index_or entries place (made_number l r z) ≡ made_number l r z

@@ -27,14 +27,14 @@ least_of n f g (a ∷ []) = n
 least_of n f g (a ∷ b ∷ ps) = min (min (slot_or f a n) (slot_or g b n)) (least_of n f g ps)
 
 -- a pair before others, which is left out where its product is 0
-abbrev pub paired : Part → Part → List Part → List Part
-paired a b ps = cond (same_part a (Leaf (pos 0)) || same_part b (Leaf (pos 0))) ps (a ∷ b ∷ ps)
+abbrev pub pairs_with : Part → Part → List Part → List Part
+pairs_with a b ps = cond (same_part a (Leaf (pos 0)) || same_part b (Leaf (pos 0))) ps (a ∷ b ∷ ps)
 
 -- the pairs where a slot has a value
 abbrev pub cofactors : List Node → List Node → ℕ → ℕ → List Part → List Part
 cofactors f g s v [] = []
 cofactors f g s v (a ∷ []) = []
-cofactors f g s v (a ∷ b ∷ ps) = paired (cofactor_of f s v a) (cofactor_of g s v b) (cofactors f g s v ps)
+cofactors f g s v (a ∷ b ∷ ps) = pairs_with (cofactor_of f s v a) (cofactor_of g s v b) (cofactors f g s v ps)
 
 -- the pairs where a slot has each of its first n values
 abbrev pub spread_to : List Node → List Node → ℕ → ℕ → List Part → List Part
@@ -48,14 +48,14 @@ ArePairs f g (a ∷ []) = ⊥
 ArePairs f g (a ∷ b ∷ ps) = IsBefore (length f) a × IsBefore (length g) b × ArePairs f g ps
 
 -- a leaf of at most that size, or a node
-abbrev pub IsSmall : ℕ → Part → Type 0
-IsSmall m (Leaf z) = unsigned_abs z ≤ m
-IsSmall m (At i) = Unit {0}
+abbrev pub IsPartWithin : ℕ → Part → Type 0
+IsPartWithin m (Leaf z) = unsigned_abs z ≤ m
+IsPartWithin m (At i) = Unit {0}
 
-abbrev pub AreSmall : ℕ → ℕ → List Part → Type 0
-AreSmall m n [] = Unit {0}
-AreSmall m n (a ∷ []) = Unit {0}
-AreSmall m n (a ∷ b ∷ ps) = IsSmall m a × IsSmall n b × AreSmall m n ps
+abbrev pub ArePartsWithin : ℕ → ℕ → List Part → Type 0
+ArePartsWithin m n [] = Unit {0}
+ArePartsWithin m n (a ∷ []) = Unit {0}
+ArePartsWithin m n (a ∷ b ∷ ps) = IsPartWithin m a × IsPartWithin n b × ArePartsWithin m n ps
 
 -- products of leaves that are small enough for a sum of 64
 abbrev pub AreLight : List Part → Type 0
@@ -64,15 +64,15 @@ AreLight (a ∷ []) = Unit {0}
 AreLight (a ∷ b ∷ ps) = (unsigned_abs (leaf_of a *ℤ leaf_of b) ≤ 2 ^ 100) × AreLight ps
 
 -- a sum as it is, or its floor in ticks
-abbrev pub finished : Bool → ℤ → ℤ
-finished mean z = cond mean (floor_div z ticks) z
+abbrev pub sum_or_floor : Bool → ℤ → ℤ
+sum_or_floor mean z = cond mean (floor_div z ticks) z
 
 -- before slot `at` the sum over its values, behind it the sum of the pairs
 unfoldable pub sum_meaning : Bool → List ℕ → ℕ → List Node → List Node → Bool → List Part → (ℕ → ℕ) → ℤ
-sum_meaning mean sizes at f g before ps π = finished mean (cond before (sum_to (get_or sizes at 0) (λ v. total f g ps (with_slot at v π))) (total f g ps π))
+sum_meaning mean sizes at f g before ps π = sum_or_floor mean (cond before (sum_to (get_or sizes at 0) (λ v. total f g ps (with_slot at v π))) (total f g ps π))
 
 -- two lists of nodes with small leaves, and a slot
-pub record IsSummed (sizes : List ℕ) (at : ℕ) (f g : List Node) : Type 0 where
+pub record IsSumWalk (sizes : List ℕ) (at : ℕ) (f g : List Node) : Type 0 where
   pub positive : ArePositive sizes
   pub left : IsOrdered sizes f
   pub right : IsOrdered sizes g
@@ -81,14 +81,14 @@ pub record IsSummed (sizes : List ℕ) (at : ℕ) (f g : List Node) : Type 0 whe
   pub most_left : ℕ
   pub most_right : ℕ
   pub product : most_left * most_right ≤ 2 ^ 100
-  pub small_left : (k v : ℕ) → k < length f → IsSmall most_left (part_at f k v)
-  pub small_right : (k v : ℕ) → k < length g → IsSmall most_right (part_at g k v)
+  pub small_left : (k v : ℕ) → k < length f → IsPartWithin most_left (part_at f k v)
+  pub small_right : (k v : ℕ) → k < length g → IsPartWithin most_right (part_at g k v)
 
 -- pairs of parts: before slot `at` one at most, behind it at most 64
 pub record IsSumOf (sizes : List ℕ) (at : ℕ) (f g : List Node) (before : Bool) (ps : List Part) : Type 0 where
-  pub tables : IsSummed sizes at f g
+  pub tables : IsSumWalk sizes at f g
   pub pairs : ArePairs f g ps
-  pub small : AreSmall tables.most_left tables.most_right ps
+  pub small : ArePartsWithin tables.most_left tables.most_right ps
   pub few : length ps ≤ cond before 2 128
   pub behind : before ≡ false → at < least_of (length sizes) f g ps
 
@@ -98,7 +98,7 @@ pub record IsSumBundle (sizes : List ℕ) (at : ℕ) (f g : List Node) (b : Node
   pub from : b.slot ≤ least_of (length sizes) f g b.parts
 
 -- the bundle that has the sum of pairs of parts
-pub record IsSettled (mean : Bool) (sizes : List ℕ) (at : ℕ) (f g : List Node) (before : Bool) (ps : List Part) (c : Node) : Type 0 where
+pub record IsBundleSum (mean : Bool) (sizes : List ℕ) (at : ℕ) (f g : List Node) (before : Bool) (ps : List Part) (c : Node) : Type 0 where
   pub bundle : IsSumBundle sizes at f g c
   pub within : c.slot < length sizes
   pub later : least_of (length sizes) f g ps ≤ c.slot

@@ -102,6 +102,12 @@ fn first_above(
     Ok(false)
 }
 
+/// Whether several ways may lead to a pair. Nothing but time rests on the answer.
+#[inline(always)]
+fn may_recur(compared: &Compared, state: &State) -> bool {
+    compared.left.is_shared(state.left) || compared.right.is_shared(state.right)
+}
+
 /// Whether it is remembered that the first part of a pair is above the second nowhere. What a leaf isn't above, no lesser leaf is.
 #[inline(always)]
 fn is_known(compared: &Compared, known: &PairTable, state: &State) -> bool
@@ -110,6 +116,9 @@ fn is_known(compared: &Compared, known: &PairTable, state: &State) -> bool
     requires known { AreNowhere compared.now.scope.now.sizes compared.now.left.now compared.now.right.now known.now }
     ensures { OnTrue result (AreBelow compared.now.scope.now.sizes compared.now.left.now compared.now.right.now state.now) }
 {
+    if !may_recur(compared, state) {
+        return false;
+    }
     let left = key_in(compared.left, state.left);
     let right = key_in(compared.right, state.right);
     match known.find(left, right) {
@@ -133,6 +142,9 @@ fn remember(compared: &Compared, known: &mut PairTable, state: &State) -> Result
     requires known { AreNowhere compared.now.scope.now.sizes compared.now.left.now compared.now.right.now known.old }
     ensures { OnOk result (AreNowhere compared.now.scope.now.sizes compared.now.left.now compared.now.right.now known.new) }
 {
+    if !may_recur(compared, state) {
+        return Ok(());
+    }
     let left = key_in(compared.left, state.left);
     let right = key_in(compared.right, state.right);
     known.keep(left, right, leaf_of_pair(state.left, state.right))?;

@@ -1,7 +1,7 @@
 //! What is remembered of pairs of parts.
 ghost use Rattle.std.specs.Prelude.{◌≡◌, ◌<◌, length, [], ◌∷◌, ◌++◌, IfSome, OnOk};
 ghost use Rattle.sp_dd.specs.Ordered.{IsBefore};
-ghost use Rattle.sp_ddops.specs.PairNumbers.{made_number, key_of, HasNumber};
+ghost use Rattle.sp_ddops.specs.PairNumbers.{made_number, key_of, PairHasNumber};
 
 use sp_dd::{NoMemory, Nodes, Part};
 use std::alloc::Global;
@@ -47,7 +47,7 @@ impl PairTable {
     /// The number that was remembered last of a pair.
     #[inline(always)]
     pub fn find(&self, left: usize, right: usize) -> Option<i128>
-        ensures { IfSome result (λ z. HasNumber self.now left right z) }
+        ensures { IfSome result (λ z. PairHasNumber self.now left right z) }
     {
         let mut slot = hash_of(left, right);
         for _ in 0..self.tops.len() {
@@ -122,7 +122,7 @@ fn hash_of(left: usize, right: usize) -> usize {
 /// The entry to which a slot of the table leads. The table's width is a power of two, and it goes round.
 #[inline(always)]
 fn entry_in(entries: &[PairNumber], tops: &[usize], slot: usize) -> Option<PairNumber>
-    ensures { IfSome result (λ e. HasNumber entries.now e.left e.right e.number) }
+    ensures { IfSome result (λ e. PairHasNumber entries.now e.left e.right e.number) }
 {
     let top = *tops.get(slot & tops.len().wrapping_sub(1))?;
     let entry = *entries.get(top.checked_sub(1)?)?;

@@ -5,7 +5,7 @@ ghost use Rattle.sp_dd.specs.Func.{function_of};
 ghost use Rattle.sp_dd.specs.Ordered.{at, node_at, IsBefore};
 ghost use Rattle.sp_dd.specs.Sources.{IfLeaf, IfBranch};
 ghost use Rattle.sp_ddops.specs.Cofactors.{leaf_of, cofactor_of};
-ghost use Rattle.sp_ddops.specs.Sums.{leaf_total, least_of, paired, cofactors, spread_to, finished, sum_meaning, ArePairs, AreLight, IsSumOf, IsSumBundle, IsSettled};
+ghost use Rattle.sp_ddops.specs.Sums.{leaf_total, least_of, pairs_with, cofactors, spread_to, sum_or_floor, sum_meaning, ArePairs, AreLight, IsSumOf, IsSumBundle, IsBundleSum};
 
 use crate::cofactor::{cofactor, leaf_in, slot_in};
 use crate::pairs::small_product;
@@ -89,7 +89,7 @@ fn settle(
     ensures kept { OnOk result (take (length list.old.items) list.new.items ≡ list.old.items) }
     ensures start { IfOk result (λ b. b.start ≤ length list.new.items) }
     ensures leaf { IfOk result (λ b. IfLeaf b.step (λ z. (π : ℕ → ℕ) → sum_meaning sum.now.is_mean sum.now.scope.now.sizes sum.now.at sum.now.left.now sum.now.right.now is_before (drop start list.old.items) π ≡ z)) }
-    ensures branch { IfOk result (λ b. IfBranch b.step (λ s. IsSettled sum.now.is_mean sum.now.scope.now.sizes sum.now.at sum.now.left.now sum.now.right.now is_before (drop start list.old.items) (made_node s (drop b.start list.new.items)))) }
+    ensures branch { IfOk result (λ b. IfBranch b.step (λ s. IsBundleSum sum.now.is_mean sum.now.scope.now.sizes sum.now.at sum.now.left.now sum.now.right.now is_before (drop start list.old.items) (made_node s (drop b.start list.new.items)))) }
 {
     let slot = least_in(sum, list, start);
     if !is_before {
@@ -112,7 +112,7 @@ fn ended(sum: &Summing, list: &Vec<Part>, start: usize, slot: u64) -> Bundle
     requires slot { slot ≡ least_of (length sum.now.scope.now.sizes) sum.now.left.now sum.now.right.now (drop start list.now.items) }
     ensures start { result.start ≡ start }
     ensures leaf { IfLeaf result.step (λ z. (π : ℕ → ℕ) → sum_meaning sum.now.is_mean sum.now.scope.now.sizes sum.now.at sum.now.left.now sum.now.right.now false (drop start list.now.items) π ≡ z) }
-    ensures branch { IfBranch result.step (λ s. IsSettled sum.now.is_mean sum.now.scope.now.sizes sum.now.at sum.now.left.now sum.now.right.now false (drop start list.now.items) (made_node s (drop start list.now.items))) }
+    ensures branch { IfBranch result.step (λ s. IsBundleSum sum.now.is_mean sum.now.scope.now.sizes sum.now.at sum.now.left.now sum.now.right.now false (drop start list.now.items) (made_node s (drop start list.now.items))) }
 {
     if slot < sum.scope.slots() {
         let step = Step::Branch(slot);
@@ -176,7 +176,7 @@ fn push_pair(
 ) -> Result<(), NoMemory>
     requires before { IsBefore (length right.now) second }
     requires value { (i : ℕ) → i < length right.now → (node_at right.now i).slot ≡ slot → value < length (node_at right.now i).parts }
-    ensures { OnOk result (list.new.items ≡ list.old.items ++ paired first (cofactor_of right.now slot value second) []) }
+    ensures { OnOk result (list.new.items ≡ list.old.items ++ pairs_with first (cofactor_of right.now slot value second) []) }
 {
     let zero = Part::Leaf(0);
     if first.is_same(&zero) {
@@ -239,7 +239,7 @@ fn plus_product(sum: i128, first: Part, second: Part) -> i128
 
 /// A sum as it is, or its floor in ticks.
 fn finish(is_mean: bool, total: i128) -> i128
-    ensures { result ≡ finished is_mean total }
+    ensures { result ≡ sum_or_floor is_mean total }
 {
     if is_mean {
         total.div_euclid(TICKS)

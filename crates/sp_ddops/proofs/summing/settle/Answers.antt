@@ -2,7 +2,7 @@ use Rattle.std.proofs.Common.{◌≡◌, ◌∙◌, ◌≤◌, Bool, true, false
 use Rattle.std.proofs.lemmas.Grind.{common_steps}
 use Rattle.sp_dd.specs.declared.part.Part.{Part}
 use Rattle.sp_dd.specs.NodeLists.{made_node}
-use Rattle.sp_ddops.specs.Sums.{sum_meaning, least_of, ArePairs, IsSumOf, IsSettled}
+use Rattle.sp_ddops.specs.Sums.{sum_meaning, least_of, ArePairs, IsSumOf, IsBundleSum}
 use Rattle.sp_ddops.proofs.SummingLemmas.{settled_before, settled_spread, IsSpreadSum, spread_sum, drop_front, leaf_map, branch_map}
 use Rattle.sp_ddops.proofs.summing.settle.Goals as goal
 
@@ -10,7 +10,7 @@ pub returns-then-slot-sum-clause-branch : goal.returns-then-slot-sum-clause-bran
 returns-then-slot-sum-clause-branch c =
     let ps : List Part = drop c.args.start c.args.list.now.items in
     let P : Bool → Type 0 = λ b. IsSumOf c.args.sum.now.scope.now.sizes c.args.sum.now.at c.args.sum.now.left.now c.args.sum.now.right.now b ps in
-    let Q : Bool → Type 0 = λ b. IsSettled c.args.sum.now.is_mean c.args.sum.now.scope.now.sizes c.args.sum.now.at c.args.sum.now.left.now c.args.sum.now.right.now b ps (made_node c.least_in-slot.result ps) in
+    let Q : Bool → Type 0 = λ b. IsBundleSum c.args.sum.now.is_mean c.args.sum.now.scope.now.sizes c.args.sum.now.at c.args.sum.now.left.now c.args.sum.now.right.now b ps (made_node c.least_in-slot.result ps) in
     subst Q (sym c.if-not-is_before.false) (settled_before _ _ _ _ _ _ _ (subst P c.if-not-is_before.false c.requires.sum) c.least_in-slot.ensures c.if-slot-sum.true)
 
 -- the bundle that is spread
@@ -58,5 +58,5 @@ returns-clause-branch c =
     let S : List Part → Type 0 = λ l. IsSpreadSum c.args.sum.now.is_mean c.args.sum.now.scope.now.sizes c.args.sum.now.at c.args.sum.now.left.now c.args.sum.now.right.now ps l in
     let h : S qs = subst S (spread_list _ _ _ _ end c.in_ok-spread.ensures) (spread_sum c.args.sum.now.is_mean _ _ _ _ ps (subst P c.if-not-is_before.false c.requires.sum) low) in
     branch_map _ _ _ (λ s k.
-    (let Q : Bool → ℕ → Type 0 = λ b start. IsSettled c.args.sum.now.is_mean c.args.sum.now.scope.now.sizes c.args.sum.now.at c.args.sum.now.left.now c.args.sum.now.right.now b ps (made_node s (drop start c.spread.new.list.items)) in
+    (let Q : Bool → ℕ → Type 0 = λ b start. IsBundleSum c.args.sum.now.is_mean c.args.sum.now.scope.now.sizes c.args.sum.now.at c.args.sum.now.left.now c.args.sum.now.right.now b ps (made_node s (drop start c.spread.new.list.items)) in
     subst (λ b. Q b c.ended-2.result.start) (sym c.if-not-is_before.false) (subst (Q true) (sym c.ended-2.ensures.start) (settled_spread _ _ _ _ _ ps qs _ h k)))) c.ended-2.ensures.branch

@@ -2,7 +2,7 @@ use Rattle.std.proofs.Common.{◌≡◌, ◌∙◌, ◌++◌, List, ℕ, ℤ, le
 use Rattle.std.proofs.lemmas.Grind.{common_steps}
 use Rattle.sp_dd.specs.declared.part.Part.{Part}
 use Rattle.sp_dd.specs.NodeLists.{Node, made_node}
-use Rattle.sp_ddops.specs.Sums.{sum_meaning, cofactors, IsSumOf, IsSettled}
+use Rattle.sp_ddops.specs.Sums.{sum_meaning, cofactors, IsSumOf, IsBundleSum}
 use Rattle.sp_ddops.proofs.SummingLemmas.{drop_front, take_all, kept_twice, next_sum, next_same, next_settled, leaf_map, branch_map}
 use Rattle.sp_ddops.proofs.summing.SummingBundleSource.next.Goals as goal
 
@@ -37,5 +37,5 @@ returns-clause-branch c =
     let same : cofactors c.args.self.now.left.now c.args.self.now.right.now c.args.at c.args.value (drop c.args.start c.args.list.now.items) ≡ drop c.len-end.result c.push_cofactors.new.list.items = pushed _ _ c.args.at c.args.value c.args.start _ _ _ end c.in_ok-push_cofactors.ensures in
     branch_map _ _ _ (λ s k.
     (let next : Node = made_node s (drop c.in_ok-bundle.bundle.start c.settle.new.list.items) in
-    let P : List Part → Type 0 = λ qs. IsSettled c.args.self.now.is_mean c.args.self.now.scope.now.sizes c.args.self.now.at c.args.self.now.left.now c.args.self.now.right.now (nat_lt c.args.at c.args.self.now.at) qs next in
+    let P : List Part → Type 0 = λ qs. IsBundleSum c.args.self.now.is_mean c.args.self.now.scope.now.sizes c.args.self.now.at c.args.self.now.left.now c.args.self.now.right.now (nat_lt c.args.at c.args.self.now.at) qs next in
     next_settled _ _ _ _ _ bundle c.args.value next c.requires.bundle c.requires.within (subst P (sym same) k))) c.in_ok-bundle.ensures.branch
