@@ -4,7 +4,7 @@ use Rattle.std.proofs.lemmas.List.{set-get_or}
 use Rattle.std.proofs.lemmas.Option.{get_or_from_slice_get, slice_get_within}
 use Rattle.std.proofs.lemmas.Map.Keys.{any_passes_from_place}
 use Rattle.sp_value.specs.Editions.{EditionParts}
-use Rattle.sp_publish.specs.Published.{Published, GoesOn, newest_in}
+use Rattle.sp_publish.specs.Published.{PublishedList, ListGoesOn, newest_in}
 use Rattle.sp_publish.proofs.Prefixes.{prefix_length}
 use Rattle.sp_publish.proofs.PublishedLemmas.{goes_on_self, goes_on_trans}
 use Rattle.sp_session.specs.declared.answers.Answer.{Answer}
@@ -17,8 +17,8 @@ use Rattle.sp_desk.specs.Asked.{KnowsMore, HasAnswered, HasSynced, HasTaken, Has
 use Rattle.sp_desk.specs.Places.{AnswersAt, TellsAt, ObservesAt, RefusesPlace}
 
 -- ---- what a desk knows
-pub known_more : (d old : DeskParts) (q : Published) → d ≡ old → GoesOn d.known q → KnowsMore old (record d { known = q })
-known_more d old q v on = record { known = subst (λ (p : DeskParts). GoesOn p.known q) v on; task = ap (λ (p : DeskParts). p.task) v; seats = ap (λ (p : DeskParts). p.seats) v }
+pub known_more : (d old : DeskParts) (q : PublishedList) → d ≡ old → ListGoesOn d.known q → KnowsMore old (record d { known = q })
+known_more d old q v on = record { known = subst (λ (p : DeskParts). ListGoesOn p.known q) v on; task = ap (λ (p : DeskParts). p.task) v; seats = ap (λ (p : DeskParts). p.seats) v }
 
 pub knows_same : (d after : DeskParts) → after ≡ d → KnowsMore d after
 knows_same d after e = subst (KnowsMore d) (sym e) (record { known = goes_on_self d.known; task = refl; seats = refl })
@@ -30,7 +30,7 @@ pub knows_on : (d mid after : DeskParts) → KnowsMore d mid → after ≡ mid �
 knows_on d mid after more same = subst (KnowsMore d) (sym same) more
 
 -- a notice's number is that of an edition that is known
-pub number_known : (told p : Published) (n : ℕ) → GoesOn told p → length told.editions ≡ n + 1 → n < length p.editions
+pub number_known : (told p : PublishedList) (n : ℕ) → ListGoesOn told p → length told.editions ≡ n + 1 → n < length p.editions
 number_known told p n on count = let less = prefix_length told.editions p.editions on.editions in omega (arith, less, count)
 
 -- ---- the open session of a name
@@ -53,11 +53,11 @@ place_kept d after place seat more there = subst (λ (ss : List Seat). place < l
 seat_after : (ss ts : List Seat) (place : ℕ) (seat : Seat) → ss ≡ ts → slice_get ss place ≡ Some seat → slice_get ts place ≡ Some seat
 seat_after ss ts place seat e there = subst (λ (us : List Seat). slice_get us place ≡ Some seat) e there
 
-pub asked : (d one two after : DeskParts) (name : List ℕ) (told : Published) (place : ℕ) (seat : Seat) (e : EditionParts) (answer : Answer) → IsOpenAt name d.seats place seat → KnowsMore d one → GoesOn told one.known → KnowsMore one two
+pub asked : (d one two after : DeskParts) (name : List ℕ) (told : PublishedList) (place : ℕ) (seat : Seat) (e : EditionParts) (answer : Answer) → IsOpenAt name d.seats place seat → KnowsMore d one → ListGoesOn told one.known → KnowsMore one two
     → newest_in two.known ≡ Some e → e.number + 1 ≡ length two.known.editions → AnswersAt two place e answer after → HasAnswered d name told answer after
 asked d one two after name told place seat e answer at first heard later new count is =
     let both : KnowsMore d two = knows_trans d one two first later in
-    let on : GoesOn told two.known = goes_on_trans told one.known two.known heard later.known in
+    let on : ListGoesOn told two.known = goes_on_trans told one.known two.known heard later.known in
     let known : after.known ≡ two.known = ap (λ (p : DeskParts). p.known) is.changed in
     let less = prefix_length told.editions two.known.editions on.editions in
     record {
@@ -67,16 +67,16 @@ asked d one two after name told place seat e answer at first heard later new cou
       edition = e;
       at = open_there name d.seats place seat is.seat at (seat_after two.seats d.seats place is.seat both.seats is.there);
       answered = is.answered;
-      newest = subst (λ (p : Published). newest_in p ≡ Some e) (sym known) new;
+      newest = subst (λ (p : PublishedList). newest_in p ≡ Some e) (sym known) new;
       no_older = omega (arith, less, count);
       saw = is.saw;
-      heard = subst (GoesOn told) (sym known) on;
-      known = subst (GoesOn d.known) (sym known) both.known;
+      heard = subst (ListGoesOn told) (sym known) on;
+      known = subst (ListGoesOn d.known) (sym known) both.known;
       task = ap (λ (p : DeskParts). p.task) is.changed ∙ both.task;
       seats = ap (λ (p : DeskParts). p.seats) is.changed ∙ ap (λ (ss : List Seat). seats_with ss place is.seat is.session) both.seats;
     }
 
-pub synced : (d one after : DeskParts) (name : List ℕ) (told : Published) (place : ℕ) (seat : Seat) (n number : ℕ) → IsOpenAt name d.seats place seat → KnowsMore d one → GoesOn told one.known → length told.editions ≡ n + 1
+pub synced : (d one after : DeskParts) (name : List ℕ) (told : PublishedList) (place : ℕ) (seat : Seat) (n number : ℕ) → IsOpenAt name d.seats place seat → KnowsMore d one → ListGoesOn told one.known → length told.editions ≡ n + 1
     → TellsAt one place n number after → HasSynced d name told number after
 synced d one after name told place seat n number at first heard count is =
     let known : after.known ≡ one.known = ap (λ (p : DeskParts). p.known) is.changed in
@@ -86,8 +86,8 @@ synced d one after name told place seat n number at first heard count is =
       seat = is.seat;
       at = open_there name d.seats place seat is.seat at (seat_after one.seats d.seats place is.seat first.seats is.there);
       which = is.which ∙ ap (λ (k : ℕ). max (session_of is.seat.session).newest k) last;
-      heard = subst (GoesOn told) (sym known) heard;
-      known = subst (GoesOn d.known) (sym known) first.known;
+      heard = subst (ListGoesOn told) (sym known) heard;
+      known = subst (ListGoesOn d.known) (sym known) first.known;
       task = ap (λ (p : DeskParts). p.task) is.changed ∙ first.task;
       seats = ap (λ (p : DeskParts). p.seats) is.changed ∙ ap (λ (ss : List Seat). seats_with ss place is.seat (with_told is.seat.session number)) first.seats;
     }
@@ -107,7 +107,7 @@ unchanged d after place o is =
 
 -- ---- the end
 -- a desk that heard of the end knows what the notice tells
-pub all_known : (one two : DeskParts) (end : Published) → end.ended ≡ true → GoesOn end one.known → KnowsMore one two → two.known ≡ end
+pub all_known : (one two : DeskParts) (end : PublishedList) → end.ended ≡ true → ListGoesOn end one.known → KnowsMore one two → two.known ≡ end
 all_known one two end ended heard later =
     let same : one.known ≡ end = heard.ended ended in
-    later.known.ended (ap (λ (p : Published). p.ended) same ∙ ended) ∙ same
+    later.known.ended (ap (λ (p : PublishedList). p.ended) same ∙ ended) ∙ same

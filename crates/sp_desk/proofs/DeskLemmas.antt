@@ -13,7 +13,7 @@ use Rattle.sp_theory.specs.SessionLaws.{AllTold}
 use Rattle.sp_model.specs.Problem.{problem}
 use Rattle.sp_value.specs.Tasks.{TaskParts}
 use Rattle.sp_value.specs.Editions.{EditionParts}
-use Rattle.sp_publish.specs.Published.{Published, IsList, IsOfTask, GoesOn, newest_in}
+use Rattle.sp_publish.specs.Published.{PublishedList, IsList, IsOfTask, ListGoesOn, newest_in}
 use Rattle.sp_publish.proofs.Prefixes.{prefix_get, prefix_length}
 use Rattle.sp_session.specs.Sessions.{SessionParts, IsSession, session_of, answering_member, with_answer, with_told, with_observed, with_unseen, first_parts}
 use Rattle.sp_session.proofs.Entering.{session_after-append}
@@ -97,11 +97,11 @@ unfolding session_after opening_session
 seat_first t es name some known = record { session = known; task = refl; answered = All-nil (λ e. slice_get es e.number ≡ Some e); told = tt; newest = some }
 
 -- ---- the list
-pub newest_number : (p : Published) (e : EditionParts) → IsList p → newest_in p ≡ Some e → e.number + 1 ≡ length p.editions
+pub newest_number : (p : PublishedList) (e : EditionParts) → IsList p → newest_in p ≡ Some e → e.number + 1 ≡ length p.editions
 newest_number p e known new = let some = known.some in let num = known.numbered (length p.editions - 1) e new in omega (arith, some, num)
 
 -- the newest edition stands at its number, which is the last, and is of the task
-pub newest_there : (p : Published) (t : TaskParts) (e : EditionParts) → IsList p → IsOfTask p t → newest_in p ≡ Some e → (slice_get p.editions e.number ≡ Some e) × (e.number + 1 ≡ length p.editions) × (e.task ≡ t)
+pub newest_there : (p : PublishedList) (t : TaskParts) (e : EditionParts) → IsList p → IsOfTask p t → newest_in p ≡ Some e → (slice_get p.editions e.number ≡ Some e) × (e.number + 1 ≡ length p.editions) × (e.task ≡ t)
 newest_there p t e known of new =
     let num : e.number ≡ length p.editions - 1 = known.numbered (length p.editions - 1) e new in
     (subst (λ (k : ℕ). slice_get p.editions k ≡ Some e) (sym num) new, newest_number p e known new, task_at p.editions (length p.editions - 1) e of known.of_one_task new)
@@ -110,7 +110,7 @@ newest_there p t e known of new =
     task_at [] k e f h at = absurd cc
     task_at (x ∷ es) k e f h at = h k x e refl at ∙ f x refl
 
-pub of_task_on : (p q : Published) (t : TaskParts) → IsList p → IsOfTask p t → GoesOn p q → IsOfTask q t
+pub of_task_on : (p q : PublishedList) (t : TaskParts) → IsList p → IsOfTask p t → ListGoesOn p q → IsOfTask q t
 of_task_on p q t known of on e opens = by_first p.editions q.editions known.some of on.editions e opens
   where
     by_first : (es fs : List EditionParts) → 0 < length es → ((x : EditionParts) → slice_get es 0 ≡ Some x → x.task ≡ t) → IsPrefix es fs → (e : EditionParts) → slice_get fs 0 ≡ Some e → e.task ≡ t
@@ -120,7 +120,7 @@ of_task_on p q t known of on e opens = by_first p.editions q.editions known.some
         let same : x ≡ e = cc (there, at) in ap (λ (y : EditionParts). y.task) (sym same) ∙ of x refl
 
 -- ---- desks
-pub desk_on : (d : DeskParts) (q : Published) → IsDesk d → GoesOn d.known q → IsList q → IsDesk (record d { known = q })
+pub desk_on : (d : DeskParts) (q : PublishedList) → IsDesk d → ListGoesOn d.known q → IsList q → IsDesk (record d { known = q })
 desk_on d q h on known = record {
   list = known;
   task = of_task_on d.known q d.task h.list h.task on;

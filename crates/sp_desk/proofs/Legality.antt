@@ -14,7 +14,7 @@ use Rattle.sp_theory.proofs.LogLemmas.{edition_same, legal_logs_agree}
 use Rattle.sp_model.specs.Problem.{problem}
 use Rattle.sp_value.specs.Tasks.{TaskParts}
 use Rattle.sp_value.specs.Editions.{EditionParts, members_in}
-use Rattle.sp_publish.specs.Published.{Published, GoesOn, newest_in}
+use Rattle.sp_publish.specs.Published.{PublishedList, ListGoesOn, newest_in}
 use Rattle.sp_session.specs.Sessions.{SessionParts, shelf_of, answering_member, closed_log}
 use Rattle.sp_session.specs.Laws.{IsSessionIn, IsLastOf}
 use Rattle.sp_session.proofs.Closing.{closed_logs_are_legal}
@@ -63,7 +63,7 @@ desks_legal d last h new editions agree =
 
 -- ---- the end
 -- a desk that heard of the end, looked, and is kept so
-module _ (d one two kept : DeskParts) (end : Published) (e : EditionParts) (ended : end.ended ≡ true) (first : KnowsMore d one) (heard : GoesOn end one.known) (later : KnowsMore one two) (is : kept ≡ two) (h : IsDesk kept) (new : newest_in two.known ≡ Some e) where
+module _ (d one two kept : DeskParts) (end : PublishedList) (e : EditionParts) (ended : end.ended ≡ true) (first : KnowsMore d one) (heard : ListGoesOn end one.known) (later : KnowsMore one two) (is : kept ≡ two) (h : IsDesk kept) (new : newest_in two.known ≡ Some e) where
   task_kept : kept.task ≡ d.task
   task_kept = ap (λ (p : DeskParts). p.task) is ∙ later.task ∙ first.task
 
@@ -76,7 +76,7 @@ module _ (d one two kept : DeskParts) (end : Published) (e : EditionParts) (ende
   pub closing_legal : (logs : List Log) → logs ≡ closed_logs kept.seats e → AreLegalOver d.task end logs
   closing_legal logs same =
       subst (AreLegalOver d.task end) (sym same)
-      (subst (λ (p : Published). AreLegalOver d.task p (closed_logs kept.seats e)) known_kept
+      (subst (λ (p : PublishedList). AreLegalOver d.task p (closed_logs kept.seats e)) known_kept
       (subst (λ (t : TaskParts). AreLegalOver t kept.known (closed_logs kept.seats e)) task_kept (desks_legal kept e h newest_kept)))
 
   pub closing_task : e.task ≡ d.task

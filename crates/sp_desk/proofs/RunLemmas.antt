@@ -14,9 +14,9 @@ use Rattle.std.proofs.lemmas.Option.{slice_get_within, get_or_from_slice_get}
 use Rattle.sp_theory.specs.Logs.{Entry, told, act, observe, unseen, Session, session_after, after_entry, opening_session}
 use Rattle.sp_theory.specs.Points.{count_of}
 use Rattle.sp_model.specs.Problem.{sizes_of}
-use Rattle.sp_publish.specs.Published.{Published, GoesOn}
+use Rattle.sp_publish.specs.Published.{PublishedList, ListGoesOn}
 use Rattle.sp_publish.proofs.PublishedLemmas.{goes_on_self}
-use Rattle.sp_script.specs.Laws.{IsWithin}
+use Rattle.sp_script.specs.Laws.{IsObservationWithin}
 use Rattle.sp_session.specs.Sessions.{SessionParts, session_of, answering_member, with_told, first_parts}
 use Rattle.sp_script.specs.declared.command.Command.{Command}
 use Rattle.sp_script.specs.declared.command.Command.TheVariants.{Open, Act, Observe, Sync, Close}
@@ -246,7 +246,7 @@ module _ (before : List Command) (d : DeskParts) (h : IsDesk d) (under : AreSeat
       by_test true e = absurd (cc)
       by_test false e = absurd (cc)
 
-  pub run_after : (c : Command) (told' : Published) (after : DeskParts) → ((kind : ScriptKind) → ¬ BreaksAfter before (request_with c) kind) → HasServed d c told' after → AreSeatsServed (before ++ c ∷ []) after.seats
+  pub run_after : (c : Command) (told' : PublishedList) (after : DeskParts) → ((kind : ScriptKind) → ¬ BreaksAfter before (request_with c) kind) → HasServed d c told' after → AreSeatsServed (before ++ c ∷ []) after.seats
   unfolding after_entry session_after opening_session
   run_after (Open name line) told' after faultless is = subst (λ (e : DeskParts). AreSeatsServed (before ++ Open name line ∷ []) e.seats) (sym is) entered
     where
@@ -312,7 +312,7 @@ module _ (before : List Command) (d : DeskParts) (h : IsDesk d) (under : AreSeat
       }
 
   -- the next command may be served
-  pub may_serve : (c : Command) → ((kind : ScriptKind) → ¬ BreaksAfter before (request_with c) kind) → IsWithin (count_of (sizes_of d.task.model.sights)) c → MayServe d c
+  pub may_serve : (c : Command) → ((kind : ScriptKind) → ¬ BreaksAfter before (request_with c) kind) → IsObservationWithin (count_of (sizes_of d.task.model.sights)) c → MayServe d c
   may_serve (Open name line) faultless within = subst (λ ns. All (λ other. other ≢ name) ns) (sym under.names) (not_opened before name (is_new before (Open name line) faultless refl))
   may_serve (Act name line) faultless within = open_at_desk before d.seats name under (is_going before (Act name line) faultless refl)
   may_serve (Observe name line o) faultless within = (
@@ -330,7 +330,7 @@ module _ (before : List Command) (d : DeskParts) (h : IsDesk d) (under : AreSeat
 pub first_after : (seats : List Seat) → seats ≡ [] → AreSeatsServed [] seats
 first_after seats none = subst (AreSeatsServed []) (sym none) (record { names = refl; each = All-nil (IsSeatServed []); idle = λ name h. record { answer = refl; commands = refl }; closed = λ name h. refl })
 
-pub served_task : (d : DeskParts) (c : Command) (told' : Published) (after : DeskParts) → HasServed d c told' after → after.task ≡ d.task
+pub served_task : (d : DeskParts) (c : Command) (told' : PublishedList) (after : DeskParts) → HasServed d c told' after → after.task ≡ d.task
 served_task d (Open name line) told' after is = ap (λ (e : DeskParts). e.task) is
 served_task d (Act name line) told' after (answer, is) = is.task
 served_task d (Observe name line o) told' after (inl is) = ap (λ (e : DeskParts). e.task) is.changed
@@ -338,10 +338,10 @@ served_task d (Observe name line o) told' after (inr is) = ap (λ (e : DeskParts
 served_task d (Sync name line) told' after (number, is) = is.task
 served_task d (Close name line) told' after is = ap (λ (e : DeskParts). e.task) is.changed
 
-known_same : (d after : DeskParts) → after.known ≡ d.known → GoesOn d.known after.known
-known_same d after same = subst (λ (p : Published). GoesOn d.known p) (sym same) (goes_on_self d.known)
+known_same : (d after : DeskParts) → after.known ≡ d.known → ListGoesOn d.known after.known
+known_same d after same = subst (λ (p : PublishedList). ListGoesOn d.known p) (sym same) (goes_on_self d.known)
 
-pub served_known : (d : DeskParts) (c : Command) (told' : Published) (after : DeskParts) → HasServed d c told' after → GoesOn d.known after.known
+pub served_known : (d : DeskParts) (c : Command) (told' : PublishedList) (after : DeskParts) → HasServed d c told' after → ListGoesOn d.known after.known
 served_known d (Open name line) told' after is = known_same d after (ap (λ (e : DeskParts). e.known) is)
 served_known d (Act name line) told' after (answer, is) = is.known
 served_known d (Observe name line o) told' after (inl is) = known_same d after (ap (λ (e : DeskParts). e.known) is.changed)
@@ -351,7 +351,7 @@ served_known d (Close name line) told' after is = known_same d after (ap (λ (e 
 
 -- ---- a script under way
 -- before any command
-pub first_run : (d : DeskParts) (cs : List Command) → IsDesk d → AreCommands cs → d.seats ≡ [] → All (IsWithin (count_of (sizes_of d.task.model.sights))) cs → IsDeskRun (record { desk = d; commands = cs; served = 0 })
+pub first_run : (d : DeskParts) (cs : List Command) → IsDesk d → AreCommands cs → d.seats ≡ [] → All (IsObservationWithin (count_of (sizes_of d.task.model.sights))) cs → IsDeskRun (record { desk = d; commands = cs; served = 0 })
 first_run d cs h are none within = record { desk = h; commands = are; within = within; count = omega arith; after = first_after d.seats none }
 
 module _ (r : DeskRunParts) (h : IsDeskRun r) where
@@ -360,7 +360,7 @@ module _ (r : DeskRunParts) (h : IsDeskRun r) where
   run_kept d known more = record {
     desk = known;
     commands = h.commands;
-    within = subst (λ (t : TaskParts). All (IsWithin (count_of (sizes_of t.model.sights))) r.commands) (sym more.task) h.within;
+    within = subst (λ (t : TaskParts). All (IsObservationWithin (count_of (sizes_of t.model.sights))) r.commands) (sym more.task) h.within;
     count = h.count;
     after = subst (AreSeatsServed (take r.served r.commands)) (sym more.seats) h.after;
   }
@@ -373,13 +373,13 @@ module _ (r : DeskRunParts) (h : IsDeskRun r) where
     next_may =
         let less = slice_get_within r.commands r.served c next in
         let there : get_or r.commands r.served c ≡ c = get_or_from_slice_get r.commands r.served c c next in
-        may_serve (take r.served r.commands) r.desk h.desk h.after c no_fault (subst (IsWithin (count_of (sizes_of r.desk.task.model.sights))) there (h.within r.served c less))
+        may_serve (take r.served r.commands) r.desk h.desk h.after c no_fault (subst (IsObservationWithin (count_of (sizes_of r.desk.task.model.sights))) there (h.within r.served c less))
 
-    pub run_next : (told' : Published) (d : DeskParts) → IsDesk d → HasServed r.desk c told' d → IsDeskRun (record r { desk = d; served = r.served + 1 })
+    pub run_next : (told' : PublishedList) (d : DeskParts) → IsDesk d → HasServed r.desk c told' d → IsDeskRun (record r { desk = d; served = r.served + 1 })
     run_next told' d known is = record {
       desk = known;
       commands = h.commands;
-      within = subst (λ (t : TaskParts). All (IsWithin (count_of (sizes_of t.model.sights))) r.commands) (sym (served_task r.desk c told' d is)) h.within;
+      within = subst (λ (t : TaskParts). All (IsObservationWithin (count_of (sizes_of t.model.sights))) r.commands) (sym (served_task r.desk c told' d is)) h.within;
       count = let less = slice_get_within r.commands r.served c next in omega (arith, less);
       after = subst (λ (cs : List Command). AreSeatsServed cs d.seats) (sym taken_more) (run_after (take r.served r.commands) r.desk h.desk h.after c told' d no_fault is);
     }

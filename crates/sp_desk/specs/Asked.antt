@@ -1,6 +1,6 @@
 -- What the calls of a desk answer.
 use Rattle.std.specs.Prelude.{◌≡◌, ℕ, ◌+◌, ◌-◌, ◌≤◌, max, true, false, List, length, set, Some}
-use Rattle.sp_publish.specs.Published.{Published, GoesOn, newest_in}
+use Rattle.sp_publish.specs.Published.{PublishedList, ListGoesOn, newest_in}
 use Rattle.sp_value.specs.Editions.{EditionParts}
 use Rattle.sp_session.specs.declared.answers.Answer.{Answer}
 use Rattle.sp_session.specs.declared.answers.ObserveError.{ObserveError}
@@ -16,12 +16,12 @@ use Rattle.sp_desk.specs.Desks.{DeskParts, IsOpenAt, is_open_in, seats_with}
 
 -- the desk knows more of its list, or as much, and its sessions stay as they were
 pub record KnowsMore (d after : DeskParts) : Type 0 where
-  pub known : GoesOn d.known after.known
+  pub known : ListGoesOn d.known after.known
   pub task : after.task ≡ d.task
   pub seats : after.seats ≡ d.seats
 
 -- the open session of that name answered on the newest edition that the desk knows of, which is no older than the notice's and than each that the session saw
-pub record HasAnswered (d : DeskParts) (name : List ℕ) (told : Published) (answer : Answer) (after : DeskParts) : Type 0 where
+pub record HasAnswered (d : DeskParts) (name : List ℕ) (told : PublishedList) (answer : Answer) (after : DeskParts) : Type 0 where
   pub place : ℕ
   pub seat : Seat
   pub session : SessionParts
@@ -31,19 +31,19 @@ pub record HasAnswered (d : DeskParts) (name : List ℕ) (told : Published) (ans
   pub newest : newest_in after.known ≡ Some edition
   pub no_older : length told.editions ≤ edition.number + 1
   pub saw : (session_of seat.session).newest ≤ edition.number
-  pub heard : GoesOn told after.known
-  pub known : GoesOn d.known after.known
+  pub heard : ListGoesOn told after.known
+  pub known : ListGoesOn d.known after.known
   pub task : after.task ≡ d.task
   pub seats : after.seats ≡ seats_with d.seats place seat session
 
 -- the open session of that name was told of the notice's edition, or of the newest one that it had seen where that is newer
-pub record HasSynced (d : DeskParts) (name : List ℕ) (told : Published) (number : ℕ) (after : DeskParts) : Type 0 where
+pub record HasSynced (d : DeskParts) (name : List ℕ) (told : PublishedList) (number : ℕ) (after : DeskParts) : Type 0 where
   pub place : ℕ
   pub seat : Seat
   pub at : IsOpenAt name d.seats place seat
   pub which : number ≡ max (session_of seat.session).newest (length told.editions - 1)
-  pub heard : GoesOn told after.known
-  pub known : GoesOn d.known after.known
+  pub heard : ListGoesOn told after.known
+  pub known : ListGoesOn d.known after.known
   pub task : after.task ≡ d.task
   pub seats : after.seats ≡ seats_with d.seats place seat (with_told seat.session number)
 

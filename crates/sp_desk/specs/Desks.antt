@@ -6,14 +6,14 @@ use Rattle.sp_theory.specs.Logs as theory
 use Rattle.sp_theory.specs.SessionLaws.{AllTold}
 use Rattle.sp_value.specs.Tasks.{TaskParts}
 use Rattle.sp_value.specs.Editions.{EditionParts}
-use Rattle.sp_publish.specs.Published.{Published, IsList, IsOfTask}
+use Rattle.sp_publish.specs.Published.{PublishedList, IsList, IsOfTask}
 use Rattle.sp_session.specs.Sessions.{SessionParts, IsSession, session_of, first_parts}
 use Rattle.sp_desk.specs.declared.seats.Seat.{Seat}
 
 -- a desk as its task, what it knows of the published list, and its sessions in order of entering
 pub record DeskParts : Type 0 where
   pub task : TaskParts
-  pub known : Published
+  pub known : PublishedList
   pub seats : List Seat
 
 abbrev pub names_in : List Seat → List (List ℕ)
@@ -55,7 +55,7 @@ pub record IsDesk (d : DeskParts) : Type 0 where
   pub names : AllPairs (λ x y. x ≢ y) (names_in d.seats)
 
 -- a desk before any session
-abbrev pub first_desk : TaskParts → Published → DeskParts
+abbrev pub first_desk : TaskParts → PublishedList → DeskParts
 first_desk t known = record { task = t; known = known; seats = [] }
 
 -- with one session more

@@ -6,7 +6,7 @@ use Rattle.sp_theory.specs.Logs.{Log, IsLegalTranscript}
 use Rattle.sp_model.specs.Problem.{problem}
 use Rattle.sp_value.specs.Tasks.{TaskParts}
 use Rattle.sp_value.specs.Editions.{EditionParts, members_in}
-use Rattle.sp_publish.specs.Published.{Published, newest_in}
+use Rattle.sp_publish.specs.Published.{PublishedList, newest_in}
 use Rattle.sp_session.specs.Sessions.{session_of, closed_log}
 use Rattle.sp_desk.specs.declared.seats.Seat.{Seat}
 
@@ -20,9 +20,9 @@ abbrev pub closed_logs : List Seat → EditionParts → List Log
 closed_logs seats last = map (λ s. closed_log s.session last) seats
 
 -- the last edition of the list is the one that they are closed on
-abbrev pub AreClosedOn : List Seat → Published → List Log → Type 0
+abbrev pub AreClosedOn : List Seat → PublishedList → List Log → Type 0
 AreClosedOn seats end logs = (last : EditionParts) × (newest_in end ≡ Some last) × (logs ≡ closed_logs seats last)
 
 -- the logs are legal for each run whose editions are those of the list
-abbrev pub AreLegalOver : TaskParts → Published → List Log → Type 0
+abbrev pub AreLegalOver : TaskParts → PublishedList → List Log → Type 0
 AreLegalOver t p logs = (editions : List Edition) → AllAgree (problem t.model) (map members_in p.editions) editions → IsLegalTranscript (problem t.model) editions logs

@@ -3,13 +3,13 @@ use Rattle.std.specs.Prelude.{◌≡◌, ℕ, ◌+◌, ◌-◌, ◌≤◌, true,
 use Rattle.sp_theory.specs.Points.{count_of}
 use Rattle.sp_model.specs.Problem.{sizes_of}
 use Rattle.sp_value.specs.Tasks.{TaskParts}
-use Rattle.sp_publish.specs.Published.{Published}
+use Rattle.sp_publish.specs.Published.{PublishedList}
 use Rattle.sp_session.specs.Sessions.{session_of}
 use Rattle.sp_script.specs.declared.command.Command.{Command}
 use Rattle.sp_script.specs.declared.command.Command.TheVariants.{Sync}
 use Rattle.sp_script.specs.Commands as script
 use Rattle.sp_script.specs.Commands.{AreCommands, has_answer, was_asked, is_opening, is_closing}
-use Rattle.sp_script.specs.Laws.{IsWithin}
+use Rattle.sp_script.specs.Laws.{IsObservationWithin}
 use Rattle.sp_script.specs.Served.{opened_names, commands_of, AreReplies}
 use Rattle.sp_serving.specs.Progress.{IsIdle}
 use Rattle.sp_desk.specs.declared.seats.Seat.{Seat}
@@ -47,7 +47,7 @@ pub record AreSeatsServed (before : List Command) (seats : List Seat) : Type 0 w
 pub record IsDeskRun (r : DeskRunParts) : Type 0 where
   pub desk : IsDesk r.desk
   pub commands : AreCommands r.commands
-  pub within : All (IsWithin (count_of (sizes_of r.desk.task.model.sights))) r.commands
+  pub within : All (IsObservationWithin (count_of (sizes_of r.desk.task.model.sights))) r.commands
   pub count : r.served ≤ length r.commands
   pub after : AreSeatsServed (take r.served r.commands) r.desk.seats
 
@@ -56,7 +56,7 @@ abbrev pub AsksForNotice : DeskRunParts → Type 0
 AsksForNotice r = (name : List ℕ) × (line : ℕ) × (slice_get r.commands r.served ≡ Some (Sync name line))
 
 -- the next command was served
-pub record ServesNext (r : DeskRunParts) (told : Published) (after : DeskRunParts) : Type 0 where
+pub record ServesNext (r : DeskRunParts) (told : PublishedList) (after : DeskRunParts) : Type 0 where
   pub command : Command
   pub next : slice_get r.commands r.served ≡ Some command
   pub desk : HasServed r.desk command told after.desk

@@ -2,7 +2,7 @@
 use Rattle.std.specs.Prelude.{◌≡◌, ◌≢◌, ◌⊎◌, ℕ, ◌<◌, true, List, All, IsSome}
 use Rattle.sp_theory.specs.Points.{count_of}
 use Rattle.sp_model.specs.Problem.{sizes_of}
-use Rattle.sp_publish.specs.Published.{Published}
+use Rattle.sp_publish.specs.Published.{PublishedList}
 use Rattle.sp_session.specs.declared.answers.Answer.{Answer}
 use Rattle.sp_session.specs.declared.answers.ObserveError.TheVariants.{Unseen}
 use Rattle.sp_session.specs.Sessions.{session_of}
@@ -27,7 +27,7 @@ abbrev pub HasNoted : DeskParts → List ℕ → ℕ → DeskParts → Type 0
 HasNoted d name o after = HasTaken d name o after ⊎ HasRefused d name o Unseen after
 
 -- the command was served
-abbrev pub HasServed : DeskParts → Command → Published → DeskParts → Type 0
+abbrev pub HasServed : DeskParts → Command → PublishedList → DeskParts → Type 0
 HasServed d (Open name line) told after = after ≡ with_session d name
 HasServed d (Act name line) told after = (answer : Answer) × HasAnswered d name told answer after
 HasServed d (Observe name line o) told after = HasNoted d name o after

@@ -4,7 +4,7 @@ ghost use Rattle.std.specs.Prelude.{◌≡◌, ◌+◌, ◌<◌, ◌≢◌, fals
 ghost use Rattle.std.specs.Arc.{arc_value};
 ghost use Rattle.sp_theory.specs.Points.{count_of};
 ghost use Rattle.sp_model.specs.Problem.{sizes_of};
-ghost use Rattle.sp_publish.specs.Published.{GoesOn, IsList, IsOfTask, newest_in};
+ghost use Rattle.sp_publish.specs.Published.{ListGoesOn, IsList, IsOfTask, newest_in};
 ghost use Rattle.sp_session.specs.Logs.{logs_of};
 ghost use Rattle.sp_serving.specs.Serving.{HasEntriesOf};
 
@@ -185,7 +185,7 @@ impl Desk {
     pub fn closing(self, end: &Notice) -> Result<Transcript, NoMemory>
         requires list { end.now.list ≡ self.known.list }
         requires ended { end.now.ended ≡ true }
-        ensures goes_on { OnOk result (GoesOn self.known end.now) }
+        ensures goes_on { OnOk result (ListGoesOn self.known end.now) }
         ensures logs { IfOk result (λ logs. AreClosedOn self.seats end.now (logs_of logs)) }
         ensures legal { IfOk result (λ logs. AreLegalOver self.task end.now (logs_of logs)) }
         ensures known { IfOk result (λ logs. All (HasEntriesOf self.task.model) (logs_of logs)) }
@@ -208,7 +208,7 @@ impl Desk {
     fn hear(&mut self, told: &Notice) -> Result<(), NoMemory>
         requires { told.now.list ≡ self.old.known.list }
         ensures more { KnowsMore self.old self.new }
-        ensures heard { OnOk result (GoesOn told.now self.new.known) }
+        ensures heard { OnOk result (ListGoesOn told.now self.new.known) }
     {
         let heard = self.viewer.learn(told);
         keeps_list(&self.viewer);

@@ -3,8 +3,8 @@
 ghost use Rattle.std.specs.Prelude.{◌≡◌, ◌+◌, ◌-◌, ◌<◌, ◌↔◌, [], length, All, IsTrue, OnErr, OnOk};
 ghost use Rattle.sp_theory.specs.Points.{count_of};
 ghost use Rattle.sp_model.specs.Problem.{sizes_of};
-ghost use Rattle.sp_publish.specs.Published.{GoesOn};
-ghost use Rattle.sp_script.specs.Laws.{IsWithin};
+ghost use Rattle.sp_publish.specs.Published.{ListGoesOn};
+ghost use Rattle.sp_script.specs.Laws.{IsObservationWithin};
 
 use crate::desk::Desk;
 use crate::serving::serve;
@@ -40,7 +40,7 @@ impl DeskRun {
     /// All commands are left.
     pub fn new(desk: Desk, commands: Commands) -> DeskRun
         requires empty { desk.seats ≡ [] }
-        requires within { All (IsWithin (count_of (sizes_of desk.task.model.sights))) commands }
+        requires within { All (IsObservationWithin (count_of (sizes_of desk.task.model.sights))) commands }
         ensures { result ≡ record { desk = desk; commands = commands; served = 0 } }
     {
         let _ = desk.task();
@@ -50,6 +50,14 @@ impl DeskRun {
             commands,
             served: 0,
         }
+    }
+
+    /// All commands, the served ones with them. The run keeps what `IsDeskRun` says. Takes no memory.
+    pub fn commands(&self) -> &Commands
+        ensures value { result.now ≡ self.now.commands }
+        ensures known { IsDeskRun self.now }
+    {
+        &self.commands
     }
 
     /// The desk, once no command is left. The run keeps what `IsDeskRun` says. Takes no memory.
@@ -90,7 +98,7 @@ impl Beside for DeskRun {
         requires left { 0 < left_of self.old }
         requires list { told.now.list ≡ self.old.desk.known.list }
         ensures work { work_of self.new ≡ work_of self.old }
-        ensures known { GoesOn self.old.desk.known self.new.desk.known }
+        ensures known { ListGoesOn self.old.desk.known self.new.desk.known }
         ensures ok { OnOk result (left_of self.new + 1 ≡ left_of self.old) }
         ensures err { OnErr result (left_of self.new ≡ left_of self.old) }
         ensures serves { OnOk result (ServesNext self.old told.now self.new) }

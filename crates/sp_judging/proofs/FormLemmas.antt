@@ -17,9 +17,9 @@ use Rattle.sp_value.specs.Tasks.{TaskParts, task_of}
 use Rattle.sp_value.specs.Editions.{members_in}
 use Rattle.sp_session.specs.declared.logs.SessionLog.{SessionLog}
 use Rattle.sp_session.specs.Logs.{logs_of, log_of}
-use Rattle.sp_planfile.specs.Form.{IsEventInForm, IsEntryInForm, IsLogInForm, AreValues, edition_count}
+use Rattle.sp_planfile.specs.Form.{IsEventInForm, IsEntryInForm, IsLogInForm, AreValuesOfEditions, edition_count}
 use Rattle.sp_planning.proofs.Parts.{edition_total}
-use Rattle.sp_faults.specs.RunFaults.{AreSampled}
+use Rattle.sp_faults.specs.RunFaults.{AreSettlesSampled}
 use Rattle.sp_faults.specs.LogFaults.{AreSeen}
 use Rattle.sp_filed.specs.Files.{IsPlanFile}
 use Rattle.sp_audit.specs.Logs.{AreAllSeen}
@@ -30,7 +30,7 @@ use Rattle.sp_faults.specs.Clauses.{Clause}
 use Rattle.sp_judging.specs.PlanFiles.{AreAsMany}
 
 -- ---- events and entries
-sampled : (t : Task) (actions joint : ℕ) (es : List Event) → AllByRecursion (IsEventInForm t.beliefs actions joint) es → AreSampled t es
+sampled : (t : Task) (actions joint : ℕ) (es : List Event) → AllByRecursion (IsEventInForm t.beliefs actions joint) es → AreSettlesSampled t es
 sampled t actions joint [] all = tt
 sampled t actions joint (settle k e a links ∷ es) all = (all.0.0, sampled t actions joint es all.1)
 sampled t actions joint (publish ∷ es) all = sampled t actions joint es all.1
@@ -54,7 +54,7 @@ log_there : (logs : List SessionLog) (k : ℕ) (l : Log) → slice_get (logs_of 
 log_there logs k l at = let within = slice_get_within (logs_of logs) k l at in let long = length-map logs log_of in omega (arith, within, long)
 
 module _ (source : List ℕ) (t : TaskParts) (events : List declared.Event) (values : Option (List ℤ)) (transcript : List SessionLog) (file : IsPlanFile source t events values transcript) where
-  pub form_is_sampled : AreSampled (task_of t) (events_of events)
+  pub form_is_sampled : AreSettlesSampled (task_of t) (events_of events)
   form_is_sampled = sampled (task_of t) (length t.model.actions) (count_of (sizes_of t.model.sights)) (events_of events) file.form.events
 
   pub form_is_seen : AreAllSeen (problem t.model) (logs_of transcript)
@@ -74,7 +74,7 @@ module _ (source : List ℕ) (t : TaskParts) (events : List declared.Event) (val
           let images = length-map r.editions members_in in
           omega (arith, agree, number, images)
 
-      by_values : (all : Option (List ℤ)) → AreValues (events_of events) all → AreAsMany all r
+      by_values : (all : Option (List ℤ)) → AreValuesOfEditions (events_of events) all → AreAsMany all r
       by_values None are = tt
       by_values (Some all) are = let count = are.0 in let wide = long in omega (arith, count, wide)
 

@@ -19,7 +19,7 @@ use Rattle.sp_lines.specs.Lines.{IsSmall}
 use Rattle.sp_planfile.specs.ModelText.{model_bytes}
 use Rattle.sp_planfile.specs.Contents.{contents_of}
 use Rattle.sp_planfile.specs.PlanText.{plan_text}
-use Rattle.sp_planfile.specs.Form.{IsInForm, AreValues}
+use Rattle.sp_planfile.specs.Form.{IsInForm, AreValuesOfEditions}
 use Rattle.sp_planning.proofs.Ranges.{values_within}
 use Rattle.sp_planning.proofs.Finished.{total_some}
 use Rattle.sp_filed.proofs.FaultLaws.{plan_files_are_not_at_fault}
@@ -66,7 +66,7 @@ module _ (source : List ℕ) (t : TaskParts) (events : List Event) (values : Opt
   sound : IsSound (task_of t) (replay (task_of t) (opening (task_of t)) (events_of events))
   sound = (legal_runs_keep_their_word t legal.file.task (events_of events) (logs_of transcript) legal.legal).0
 
-  values_are : AreValues (events_of events) (Some (values_after t (events_of events)))
+  values_are : AreValuesOfEditions (events_of events) (Some (values_after t (events_of events)))
   values_are =
       let all = values_within (problem t.model) (weights_at t 0) (editions (replay (task_of t) (opening (task_of t)) (events_of events))) (total_some t.model known (sampled_func t 0) weights shape)
       (least_return_from t.model known) (least_return_to t.model known) (top_to t.model known) sound.ranged in

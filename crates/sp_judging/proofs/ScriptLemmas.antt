@@ -12,9 +12,11 @@ use Rattle.sp_model.specs.declared.parts.Parts.{Parts}
 use Rattle.sp_model.specs.Problem.{problem, sizes_of}
 use Rattle.sp_value.specs.Tasks.{TaskParts, task_of}
 use Rattle.sp_value.specs.Editions.{EditionParts, members_in}
+use Rattle.sp_value.specs.declared.tasks.Options.{Options}
+use Rattle.sp_choose.specs.Machines.{Machine}
 use Rattle.sp_script.specs.declared.command.Command.{Command}
 use Rattle.sp_script.specs.Commands.{AreCommands}
-use Rattle.sp_script.specs.Laws.{IsWithin}
+use Rattle.sp_script.specs.Laws.{IsObservationWithin}
 use Rattle.sp_serving.specs.Replies.{newest_of, transcript_of}
 use Rattle.sp_serving.specs.Serving.{shown_in}
 use Rattle.sp_serving.proofs.Transcripts.{transcripts_serve, transcripts_are_legal, transcripts_agree, names_are_different}
@@ -27,10 +29,11 @@ use Rattle.sp_planfile.specs.PlanText.{plan_text, sessions_text}
 use Rattle.sp_planfile.specs.Form.{IsInForm}
 use Rattle.sp_planfile.proofs.Whole.{text_tells}
 use Rattle.sp_planning.specs.PlanFiles as planning
-use Rattle.sp_planning.specs.ScriptFiles.{scripted_contents}
+use Rattle.sp_planning.specs.ScriptFiles.{scripted_contents, IsScriptFileFor}
+use Rattle.sp_planning.specs.RunFiles.{IsRunFileFor}
 use Rattle.sp_audit.specs.Replays.{IsLastEdition}
 use Rattle.sp_judging.specs.ActTexts.{last_logs, IsActText}
-use Rattle.sp_judging.specs.Laws.{OneScriptFile, ScriptFilesAreLegal}
+use Rattle.sp_judging.specs.Laws.{OneRunFile, OneScriptFile, RunFilesAreLegal, ScriptFilesAreLegal}
 
 -- ---- on the last edition
 -- the book to which events lead
@@ -49,7 +52,7 @@ module _ (t : TaskParts) (es : List theory.Event) (e : EditionParts) (last : IsL
   logs_are : (cs : List Command) → transcript_of (problem e.task.model) [] (shown_in e) cs ≡ last_logs t es cs
   logs_are cs = (λ i. transcript_of (problem (last.task i).model) [] (shown_in e) cs) ∙ transcripts_agree (problem t.model) [] [] (shown_in e) (newest_of (book_after t es)) tt number members cs
 
-  pub act_text_is : (cs : List Command) → AreCommands cs → All (IsWithin (count_of (sizes_of t.model.sights))) cs → (logs : List Log) → logs ≡ transcript_of (problem e.task.model) [] (shown_in e) cs
+  pub act_text_is : (cs : List Command) → AreCommands cs → All (IsObservationWithin (count_of (sizes_of t.model.sights))) cs → (logs : List Log) → logs ≡ transcript_of (problem e.task.model) [] (shown_in e) cs
       → (text : List ℕ) → text ≡ sessions_text logs → IsActText t es cs text
   unfolding problem
   act_text_is cs are within logs served text is = record {
@@ -60,28 +63,49 @@ module _ (t : TaskParts) (es : List theory.Event) (e : EditionParts) (last : IsL
   }
 
 -- ---- while it is planned
-pub script_files_are_legal : ScriptFilesAreLegal
-script_files_are_legal p o chooser cs text f reads =
+pub run_files_are_legal : RunFilesAreLegal
+run_files_are_legal p o chooser cs text f reads =
     let t : TaskParts = f.task in
-    let is : t.model ≡ p = f.planned.task.model in
+    let is : t.model ≡ p = f.sampled.model in
     let told : List ℤ = planning.values_after t f.events in
     record {
       file = record {
         text = f.is ∙ ap (λ (m : Parts). plan_text (contents_of (model_bytes m) t f.events (Some told) f.transcript)) (sym is);
-        task = f.planned.task.is_task;
+        task = f.sampled.is_task;
         reads = subst (λ (m : Parts). Reads (model_bytes m) m) (sym is) reads;
         form = subst (λ (m : Parts). IsInForm (length m.actions) (count_of (sizes_of m.sights)) (contents_of (model_bytes m) t f.events (Some told) f.transcript)) (sym is) f.form;
       };
-      legal = record { run = f.planned.trusted.legal; transcript = f.sessions.legal };
+      legal = record { run = f.trusted.legal; transcript = f.legal };
       true_values = refl;
     }
 
-pub one_script_file : OneScriptFile
-one_script_file p q o w chooser other cs ds text one two reads other_reads =
+pub one_run_file : OneRunFile
+one_run_file p q o w chooser other cs ds text one two reads other_reads =
     let same : scripted_contents p one.task one.events one.transcript ≡ scripted_contents q two.task two.events two.transcript =
     text_tells (length p.actions) (count_of (sizes_of p.sights)) (length q.actions) (count_of (sizes_of q.sights)) _ _ one.form two.form (sym one.is ∙ two.is) in
     let bytes : model_bytes p ≡ model_bytes q = ap (λ (c : Contents). c.model) same in (
       one_meaning (model_bytes p) p q reads (subst (λ (s : List ℕ). Reads s q) (sym bytes) other_reads),
-      sym one.planned.task.options ∙ ap (λ (c : Contents). c.options) same ∙ two.planned.task.options,
+      sym one.sampled.options ∙ ap (λ (c : Contents). c.options) same ∙ two.sampled.options,
       same,
     )
+
+-- what one thread plans, as the file of a run
+abbrev as_run : (p : Parts) (o : Options) (chooser : Machine) (cs : List Command) (text : List ℕ) → IsScriptFileFor p o chooser cs text → IsRunFileFor p o chooser cs text
+as_run p o chooser cs text f = record {
+  task = f.task;
+  events = f.events;
+  transcript = f.transcript;
+  sampled = f.planned.task;
+  trusted = f.planned.trusted;
+  legal = f.sessions.legal;
+  served = f.sessions.served;
+  form = f.form;
+  is = f.is;
+}
+
+pub script_files_are_legal : ScriptFilesAreLegal
+script_files_are_legal p o chooser cs text f reads = run_files_are_legal p o chooser cs text (as_run p o chooser cs text f) reads
+
+pub one_script_file : OneScriptFile
+one_script_file p q o w chooser other cs ds text one two reads other_reads =
+    one_run_file p q o w chooser other cs ds text (as_run p o chooser cs text one) (as_run q w other ds text two) reads other_reads

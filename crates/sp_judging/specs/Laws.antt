@@ -12,6 +12,7 @@ use Rattle.sp_script.specs.declared.command.Command.{Command}
 use Rattle.sp_reader.specs.Sources.{Reads}
 use Rattle.sp_planfile.specs.ModelText.{model_bytes}
 use Rattle.sp_planning.specs.ScriptFiles.{IsScriptFileFor, scripted_contents}
+use Rattle.sp_planning.specs.RunFiles.{IsRunFileFor}
 use Rattle.sp_filed.specs.declared.error.PlanKind.{PlanKind}
 use Rattle.sp_filed.specs.Files.{IsFault}
 use Rattle.sp_audit.specs.Verdicts.{values_after}
@@ -50,6 +51,21 @@ abbrev pub OneScriptFile : Type 0
 OneScriptFile =
     (p q : Parts) (o w : Options) (chooser other : Machine) (cs ds : List Command) (text : List ℕ)
     → (one : IsScriptFileFor p o chooser cs text) (two : IsScriptFileFor q w other ds text)
+    → Reads (model_bytes p) p → Reads (model_bytes q) q
+    → (p ≡ q) × (o ≡ w)
+    × (scripted_contents p one.task one.events one.transcript ≡ scripted_contents q two.task two.events two.transcript)
+
+-- the plan file of a run, however many threads planned it, is a legal file whose values are those of its editions
+abbrev pub RunFilesAreLegal : Type 0
+RunFilesAreLegal =
+    (p : Parts) (o : Options) (chooser : Machine) (cs : List Command) (text : List ℕ) (f : IsRunFileFor p o chooser cs text)
+    → Reads (model_bytes p) p → IsLegalFile text f.task f.events (Some (values_after f.task (events_of f.events))) f.transcript
+
+-- such a text too is that of one model, one list of options and one run with its logs only
+abbrev pub OneRunFile : Type 0
+OneRunFile =
+    (p q : Parts) (o w : Options) (chooser other : Machine) (cs ds : List Command) (text : List ℕ)
+    → (one : IsRunFileFor p o chooser cs text) (two : IsRunFileFor q w other ds text)
     → Reads (model_bytes p) p → Reads (model_bytes q) q
     → (p ≡ q) × (o ≡ w)
     × (scripted_contents p one.task one.events one.transcript ≡ scripted_contents q two.task two.events two.transcript)

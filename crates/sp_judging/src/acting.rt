@@ -5,7 +5,7 @@ ghost use Rattle.std.specs.Arc.{arc_value};
 ghost use Rattle.sp_theory.specs.Points.{count_of};
 ghost use Rattle.sp_model.specs.Problem.{sizes_of};
 ghost use Rattle.sp_value.specs.Events.{events_of};
-ghost use Rattle.sp_script.specs.Laws.{IsWithin};
+ghost use Rattle.sp_script.specs.Laws.{IsObservationWithin};
 ghost use Rattle.sp_audit.specs.Replays.{IsReplayOf};
 ghost use Rattle.sp_judging.specs.ActTexts.{IsActText};
 
@@ -20,7 +20,7 @@ use std::alloc::Global;
 /// it.
 pub fn act_text(alloc: Global, plan: &LegalPlan, commands: Commands) -> Result<Vec<u8>, NoMemory>
     requires replay { IsReplayOf (arc_value plan.now.filed.run.task) (events_of plan.now.filed.run.events) plan.now.replay }
-    requires commands { All (IsWithin (count_of (sizes_of (arc_value plan.now.filed.run.task).model.sights))) commands }
+    requires commands { All (IsObservationWithin (count_of (sizes_of (arc_value plan.now.filed.run.task).model.sights))) commands }
     ensures { IfOk result (λ text. IsActText (arc_value plan.now.filed.run.task) (events_of plan.now.filed.run.events) commands text.items) }
 {
     // what is known of commands

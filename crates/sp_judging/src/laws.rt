@@ -1,6 +1,6 @@
 //! Laws of judged plan files. Each function does nothing: its contract is the law.
 
-ghost use Rattle.sp_judging.specs.Laws.{LegalFilesAreNotRefused, LegalFilesAreSound, MigratedFilesAreLegal, FilesWithValuesStay, OneScriptFile, ScriptFilesAreLegal};
+ghost use Rattle.sp_judging.specs.Laws.{LegalFilesAreNotRefused, LegalFilesAreSound, MigratedFilesAreLegal, FilesWithValuesStay, OneRunFile, OneScriptFile, RunFilesAreLegal, ScriptFilesAreLegal};
 
 /// Of the same bytes one thing holds at most: they are a legal plan file with true values, they are a plan file that isn't, or they are
 /// at fault.
@@ -32,4 +32,15 @@ pub fn script_files_are_legal()
 /// What is planned while a script is served is the file of one model, of one list of options and of one run with its logs only.
 pub fn one_script_file()
     ensures { OneScriptFile }
+{}
+
+/// The plan file of a run, however many threads planned it, is a legal file with true values, where the canonical text of its model
+/// means that model.
+pub fn run_files_are_legal()
+    ensures { RunFilesAreLegal }
+{}
+
+/// The plan file of a run is that of one model, of one list of options and of one run with its logs only.
+pub fn one_run_file()
+    ensures { OneRunFile }
 {}

@@ -16,6 +16,7 @@ pub use error::JudgeError;
 pub use judging::{LegalPlan, judged_plan};
 pub use laws::{
     files_with_values_stay, legal_files_are_not_refused, legal_files_are_sound,
-    migrated_files_are_legal, one_script_file, script_files_are_legal,
+    migrated_files_are_legal, one_run_file, one_script_file, run_files_are_legal,
+    script_files_are_legal,
 };
 pub use texts::{audit_text, migrated_text};

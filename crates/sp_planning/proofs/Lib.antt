@@ -6,3 +6,4 @@ pub mod Form
 pub mod Finished
 pub mod ScriptForm
 pub mod Scripted
+pub mod RunFiles

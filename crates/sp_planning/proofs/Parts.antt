@@ -16,15 +16,15 @@ use Rattle.sp_model.specs.Problem.{problem, sizes_of}
 use Rattle.sp_model.specs.Links.{sample_of}
 use Rattle.sp_planfile.specs.RunText.{HasSmall}
 use Rattle.sp_planfile.specs.Contents.{moves_of, move_of}
-use Rattle.sp_planfile.specs.Form.{IsMove, IsEventInForm, edition_count}
+use Rattle.sp_planfile.specs.Form.{IsParentMove, IsEventInForm, edition_count}
 
 -- ---- moves
-moves_in : (a o : ℕ) (ys : List Sample) → ((k : ℕ) (d : Sample) → k < length ys → ((get_or ys k d).action < a) × ((get_or ys k d).observation < o)) → AllByRecursion (IsMove a o) (map move_of ys)
+moves_in : (a o : ℕ) (ys : List Sample) → ((k : ℕ) (d : Sample) → k < length ys → ((get_or ys k d).action < a) × ((get_or ys k d).observation < o)) → AllByRecursion (IsParentMove a o) (map move_of ys)
 moves_in a o [] each = tt
 moves_in a o (y ∷ ys) each = (each zero y (omega arith), moves_in a o ys (λ k d less. each (suc k) d (omega (arith, less))))
 
 module _ (p : Parts) (depth : ℕ) where
-  pub moves_in_form : (xs : List Sample) → theory.AreSamplesOf (problem p) depth (map (sample_of p) xs) → AllByRecursion (IsMove (length p.actions) (count_of (sizes_of p.sights))) (moves_of xs)
+  pub moves_in_form : (xs : List Sample) → theory.AreSamplesOf (problem p) depth (map (sample_of p) xs) → AllByRecursion (IsParentMove (length p.actions) (count_of (sizes_of p.sights))) (moves_of xs)
   unfolding problem
   moves_in_form [] are = tt
   moves_in_form (x ∷ xs) are =

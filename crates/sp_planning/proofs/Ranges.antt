@@ -12,7 +12,7 @@ use Rattle.sp_theory.proofs.Whole.{≤ℤ_trans, floor_most, floor_mono, floor-t
 use Rattle.sp_theory.proofs.Weighing.{le_same}
 use Rattle.sp_theory.proofs.Greatest.{greatest_case, dot_mono}
 use Rattle.sp_theory.proofs.Backups.{dot-add, dot-constant, dot_from_zero}
-use Rattle.sp_planfile.specs.Form.{IsValue}
+use Rattle.sp_planfile.specs.Form.{IsTickValue}
 
 -- at every state at most that many ticks
 abbrev pub IsWithin : Model → ℕ → Vector → Type 0
@@ -53,12 +53,12 @@ module _ (m : Model) (w : Weights) (n : ℕ) where
       let high : dot m w v ≤ℤ times t (pos n) = let e = two.0 in omega (arith, ints, e, same) in
       (floor_most (dot m w v) (neg_ℤ (pos n)) t some low, ≤ℤ_trans (floor_mono (dot m w v) (times t (pos n)) t some high) (le_same (floor-times t (pos n) some)))
 
-is_value : (z : ℤ) → neg_ℤ (pos (10 ^ 18)) ≤ℤ z → z ≤ℤ pos (10 ^ 18) → IsValue z
+is_value : (z : ℤ) → neg_ℤ (pos (10 ^ 18)) ≤ℤ z → z ≤ℤ pos (10 ^ 18) → IsTickValue z
 is_value z low high = omega (arith, ints, low, high)
 
 pub values_within : (m : Model) (w : Weights) (editions : List Edition) → 0 < total_weight m w → neg_ℤ (pos (10 ^ 18)) ≤ℤ least_return m → least_return m ≤ℤ top m → top m ≤ℤ pos (10 ^ 18)
     → All (All (λ (x : Member). (s : State) → IsPoint m.sizes s → (least_return m ≤ℤ x.vector s) × (x.vector s ≤ℤ top m))) editions
-    → AllByRecursion IsValue (map (λ e. floor (value m e w) (total_weight m w)) editions)
+    → AllByRecursion IsTickValue (map (λ e. floor (value m e w) (total_weight m w)) editions)
 unfolding leaf_member
 values_within m w [] some low order high all = tt
 values_within m w (e ∷ es) some low order high all =

@@ -1,14 +1,17 @@
 -- The logs of a script that was served are in form.
-use Rattle.std.proofs.Common.{◌≡◌, sym, subst, refl, arith, ℕ, zero, suc, Bool, true, false, cond, ◌&&◌, List, [], ◌∷◌, map, length}
-use Rattle.std.specs.Prelude.{All, IsTrue, filter, nat_lt, nat_le}
+use Rattle.std.proofs.Common.{◌≡◌, ◌≢◌, sym, subst, refl, arith, ℕ, zero, suc, Bool, true, false, cond, ◌&&◌, List, [], ◌∷◌, map, length}
+use Rattle.std.specs.Prelude.{All, AllPairs, IsTrue, filter, nat_lt, nat_le}
 use Rattle.std.specs.List.{AllByRecursion, list_all}
 use Rattle.std.proofs.lemmas.Bool.{ltb-true, leb-true}
+use Rattle.std.proofs.lemmas.List.{length-map}
 use Rattle.std.proofs.lemmas.List.Elements.{All-nil, All-cons}
 use Rattle.sp_theory.specs.Points.{count_of}
-use Rattle.sp_theory.specs.Logs.{Entry, told, act, observe, unseen, closing}
+use Rattle.sp_theory.specs.Logs.{Entry, told, act, observe, unseen, closing, Log}
 use Rattle.sp_model.specs.declared.parts.Parts.{Parts}
 use Rattle.sp_model.specs.Problem.{sizes_of}
 use Rattle.sp_model.specs.Words.{is_word_byte}
+use Rattle.sp_value.specs.declared.events.Event.{Event}
+use Rattle.sp_value.specs.Tasks.{TaskParts}
 use Rattle.sp_session.specs.declared.logs.SessionLog.{SessionLog}
 use Rattle.sp_session.specs.Logs.{entries_of, log_of, logs_of}
 use Rattle.sp_session.specs.Sessions.{IsEntryOf}
@@ -17,8 +20,12 @@ use Rattle.sp_script.specs.Requests.{is_session_name}
 use Rattle.sp_script.specs.Commands.{name_of, verb_of, is_opening, AreCommands}
 use Rattle.sp_script.specs.Served.{opened_names}
 use Rattle.sp_serving.specs.Serving.{HasEntriesOf}
-use Rattle.sp_planfile.specs.Form.{IsEntryInForm, HasSmallNumbers, IsSessionName, IsLogInForm}
-use Rattle.sp_planning.specs.ScriptFiles.{AreSmallLogs}
+use Rattle.sp_serving.proofs.Transcripts.{different_all}
+use Rattle.sp_lines.specs.Lines.{IsSmall}
+use Rattle.sp_planfile.specs.Form.{IsEntryInForm, HasSmallNumbers, IsSessionName, IsLogInForm, IsInForm}
+use Rattle.sp_planning.specs.PlanFiles.{planned_contents}
+use Rattle.sp_planning.specs.ScriptFiles.{scripted_contents, AreSmallLogs}
+use Rattle.sp_planning.specs.BookFiles.{AreFileLogs}
 
 -- ---- names
 both : (a b : Bool) → (a && b) ≡ true → (a ≡ true) × (b ≡ true)
@@ -66,6 +73,36 @@ logs_by_names p (log ∷ logs) (first, rest) known names = (
 )
 
 -- the logs of the sessions of a script
-pub logs_in_form : (p : Parts) (cs : List Command) → AreCommands cs → (logs : List SessionLog) → AreSmallLogs logs → All (HasEntriesOf p) (logs_of logs) → map (λ log. log.name) (logs_of logs) ≡ opened_names cs
-    → AllByRecursion (IsLogInForm (length p.actions) (count_of (sizes_of p.sights))) (logs_of logs)
-logs_in_form p cs are logs small known names = logs_by_names p logs small known (subst (All IsSessionName) (sym names) (names_in_form cs are.named))
+pub file_logs : (p : Parts) (cs : List Command) → AreCommands cs → (logs : List Log) → map (λ log. log.name) logs ≡ opened_names cs → All (HasEntriesOf p) logs → AreFileLogs p logs
+file_logs p cs are logs names known = record {
+  names = subst (All IsSessionName) (sym names) (names_in_form cs are.named);
+  different = subst (AllPairs (λ x y. x ≢ y)) (sym names) (different_all [] cs are (λ i j d less h. absurd (omega (arith, less, h))));
+  entries = known;
+}
+
+-- without sessions
+pub no_logs : (p : Parts) → AreFileLogs p []
+no_logs p = record {
+  names = All-nil IsSessionName;
+  different = λ i j d less h. absurd (omega (arith, less, h));
+  entries = All-nil (HasEntriesOf p);
+}
+
+-- what is in form without logs is so with logs that are
+pub with_logs : (p : Parts) (t : TaskParts) (events : List Event) (transcript : List SessionLog) → IsInForm (length p.actions) (count_of (sizes_of p.sights)) (planned_contents p t events)
+    → AreSmallLogs transcript → IsSmall (length transcript) → AreFileLogs p (logs_of transcript)
+    → IsInForm (length p.actions) (count_of (sizes_of p.sights)) (scripted_contents p t events transcript)
+with_logs p t events transcript form small count logs = record {
+  few_actions = form.few_actions;
+  few_joint = form.few_joint;
+  model = form.model;
+  options = form.options;
+  move_count = form.move_count;
+  moves = form.moves;
+  event_count = form.event_count;
+  events = form.events;
+  values = form.values;
+  log_count = let long = length-map transcript log_of in subst IsSmall (sym long) count;
+  logs = logs_by_names p transcript small logs.entries logs.names;
+  names = logs.different;
+}

@@ -3,14 +3,14 @@
 ghost use Rattle.std.specs.List.{AllByRecursion};
 ghost use Rattle.sp_lines.specs.Lines.{IsSmall, IsSmallPair};
 ghost use Rattle.sp_value.specs.Events.{event_of, events_of};
-ghost use Rattle.sp_planfile.specs.RunText.{AreSmall, HasSmall};
+ghost use Rattle.sp_planfile.specs.RunText.{FitInWords, HasSmall};
 
 use sp_dd::Pairs;
 use sp_value::Event;
 
 /// Reads events, and does nothing with them.
 pub(crate) fn read_numbers(events: &[Event])
-    ensures { AreSmall (events_of events.now) }
+    ensures { FitInWords (events_of events.now) }
 {
     for event in events {
         read_event(event);

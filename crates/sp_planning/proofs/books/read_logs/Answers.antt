@@ -6,7 +6,7 @@ use Rattle.std.proofs.lemmas.List.Elements.{All-more, recursion_from_All}
 use Rattle.sp_session.specs.declared.logs.SessionLog.{SessionLog}
 use Rattle.sp_session.specs.Logs.{entries_of}
 use Rattle.sp_planfile.specs.Form.{HasSmallNumbers}
-use Rattle.sp_planning.proofs.scripts.read_logs.Goals as goal
+use Rattle.sp_planning.proofs.books.read_logs.Goals as goal
 
 abbrev small : SessionLog → Type 0
 small log = AllByRecursion HasSmallNumbers (entries_of log.entries)

@@ -6,7 +6,7 @@ use Rattle.sp_session.specs.declared.logs.Entry.{Entry}
 use Rattle.sp_session.specs.declared.logs.Entry.TheVariants.{Told}
 use Rattle.sp_session.specs.Logs.{entry_of, entries_of}
 use Rattle.sp_planfile.specs.Form.{HasSmallNumbers}
-use Rattle.sp_planning.proofs.scripts.read_entries.Goals as goal
+use Rattle.sp_planning.proofs.books.read_entries.Goals as goal
 
 abbrev small : Entry → Type 0
 small entry = HasSmallNumbers (entry_of entry)
