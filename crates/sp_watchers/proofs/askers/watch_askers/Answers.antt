@@ -1,0 +1,24 @@
+use Rattle.std.proofs.Common.{refl, ap, sym}
+use Rattle.std.specs.Arc.{arc_value}
+use Rattle.sp_core.specs.Books.{BookParts}
+use Rattle.sp_publish.specs.Published.{PublishedList}
+use Rattle.sp_publish.specs.Names.{no_edition}
+use Rattle.sp_watchers.specs.declared.askers.Asker.{Asker}
+use Rattle.sp_watchers.proofs.Besides.{first_of, all_named, told_task}
+use Rattle.sp_watchers.proofs.askers.watch_askers.Goals as goal
+
+pub ended_beside-requires-clause-opening : goal.ended_beside-requires-clause-opening
+ended_beside-requires-clause-opening g c κs = λ _. ap (λ (b : BookParts). b.history) c.requires
+
+pub ended_beside-requires-clause-named : goal.ended_beside-requires-clause-named
+ended_beside-requires-clause-named g c κs = λ _. (refl, first_of _ no_edition c.in_ok-publisher.ensures.one)
+
+pub ended_beside-requires-clause-besides : goal.ended_beside-requires-clause-besides
+ended_beside-requires-clause-besides g c κs = λ _. all_named (λ (x : Asker). x.desk.known) c.in-Ok.askers.items _ _ (ap (λ (p : PublishedList). p.list) c.in_ok-publisher.ensures.notice) c.in-Ok.ensures
+
+pub push_askers-requires : goal.push_askers-requires
+push_askers-requires g c = all_named (λ (x : Asker). x.desk.known) c.in_ok-askers.askers _ _ (sym c.in_ok-askers.ensures.end.0) c.in_ok-askers.ensures.besides
+
+pub askers_of-requires-clause-task : goal.askers_of-requires-clause-task
+askers_of-requires-clause-task g c =
+    told_task c.in_ok-publisher.publisher c.in_ok-publisher.first c.args.book (arc_value c.task.result.now) c.task.ensures.known c.in_ok-publisher.ensures.beginning c.in_ok-publisher.ensures.notice c.task.ensures.value
