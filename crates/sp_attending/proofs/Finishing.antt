@@ -17,7 +17,7 @@ use Rattle.sp_planner.specs.Pauses.{pauses, IsServed}
 use Rattle.sp_planner.proofs.Backing.{edition_count, latest_number, latest_task, latest_agrees}
 use Rattle.sp_script.specs.declared.command.Command.{Command}
 use Rattle.sp_script.specs.Commands.{AreCommands}
-use Rattle.sp_script.specs.Laws.{IsWithin}
+use Rattle.sp_script.specs.Laws.{IsObservationWithin}
 use Rattle.sp_serving.specs.Replies.{Shown, newest_of, closed_on, logs_after, transcript_of}
 use Rattle.sp_serving.specs.Laws.{ShownAgree}
 use Rattle.sp_serving.specs.Serving.{ServingParts, first_serving, finished_logs, shown_in}
@@ -68,7 +68,7 @@ module _ (b d : BookParts) (pruning : Bool) (words : List ℕ) (cs : List Comman
         shown : List Shown
         shown = shown_at (task_of b.task) (pauses (task_of b.task) pruning b.history (marks_of b.taken) words)
 
-    pub served_plan : AreCommands cs → All (IsWithin (count_of (sizes_of b.task.model.sights))) cs → (logs : List Log) → logs ≡ finished_logs e (shown_in last) → IsServedPlan (task_of b.task) pruning b.history (marks_of b.taken) words d.history cs logs
+    pub served_plan : AreCommands cs → All (IsObservationWithin (count_of (sizes_of b.task.model.sights))) cs → (logs : List Log) → logs ≡ finished_logs e (shown_in last) → IsServedPlan (task_of b.task) pruning b.history (marks_of b.taken) words d.history cs logs
     unfolding problem
     served_plan are within logs same =
         subst (IsServedPlan (task_of b.task) pruning b.history (marks_of b.taken) words d.history cs) (sym (same ∙ logs_are)) (record {

@@ -11,7 +11,7 @@ use Rattle.sp_script.specs.declared.command.Command.{Command}
 use Rattle.sp_serving.specs.Replies.{Shown, newest_of}
 use Rattle.sp_serving.specs.Serving.{ServingParts, after_first, with_next, shown_in}
 use Rattle.sp_serving.proofs.Transcripts.{logs_same}
-use Rattle.sp_attending.specs.Attending.{Fits, IsServedOn}
+use Rattle.sp_attending.specs.Attending.{HasServedEditions, IsServedOn}
 
 -- with no command left nothing changes
 pub nothing_left : (s : ServingParts) (b : BookParts) → length s.left ≡ 0 → IsServedOn s b s
@@ -22,7 +22,7 @@ nothing_left s b none = record { next = λ fits. sym (by_left s.left none); othe
     by_left (c ∷ cs) none = absurd (omega (arith, none))
 
 -- nor at a book that doesn't fit
-pub nothing_fits : (s : ServingParts) (b : BookParts) → ¬ Fits s b → IsServedOn s b s
+pub nothing_fits : (s : ServingParts) (b : BookParts) → ¬ HasServedEditions s b → IsServedOn s b s
 nothing_fits s b un = record { next = λ fits. absurd (un fits); other = λ other. refl }
 
 -- editions that agree do the same
@@ -34,7 +34,7 @@ next_same s x y number agree = by_left s.left
     by_left (c ∷ cs) = λ i. record s { served = s.served ++ c ∷ []; left = cs; newest = number i; logs = logs_same (problem s.task.model) x y number agree s.logs c i }
 
 -- the next command on the latest edition of a book that fits
-module _ (s : ServingParts) (b : BookParts) (is : IsBook b) (last : EditionParts) (at : slice_get b.editions (length b.editions - 1) ≡ Some last) (fits : Fits s b) where
+module _ (s : ServingParts) (b : BookParts) (is : IsBook b) (last : EditionParts) (at : slice_get b.editions (length b.editions - 1) ≡ Some last) (fits : HasServedEditions s b) where
   pub task_fits : last.task ≡ s.task
   task_fits = latest_task b is last at ∙ fits.task
 

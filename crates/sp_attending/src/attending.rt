@@ -1,7 +1,7 @@
 //! A script that is served at the pauses of a run.
 
 ghost use Rattle.std.specs.Prelude.{◌≡◌, ◌↔◌, IsTrue, OnOk};
-ghost use Rattle.sp_attending.specs.Attending.{Fits, IsServedOn};
+ghost use Rattle.sp_attending.specs.Attending.{HasServedEditions, IsServedOn};
 
 use sp_core::Book;
 use sp_dd::NoMemory;
@@ -16,7 +16,7 @@ pub(crate) struct Attendant {
 
 /// Whether it is the book of the task, and has the editions on which commands were served.
 fn fits(serving: &Serving, book: &Book) -> bool
-    ensures { IsTrue result ↔ Fits serving.now book.now }
+    ensures { IsTrue result ↔ HasServedEditions serving.now book.now }
 {
     serving.newest() < book.count() && book.task().same(serving.task())
 }

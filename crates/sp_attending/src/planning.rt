@@ -5,9 +5,9 @@ ghost use Rattle.sp_theory.specs.Points.{count_of};
 ghost use Rattle.sp_model.specs.Problem.{sizes_of};
 ghost use Rattle.sp_core.specs.Books.{state_of};
 ghost use Rattle.sp_planner.specs.Planned.{picking_words};
-ghost use Rattle.sp_planner.specs.Turns.{IsLater, IsRun};
+ghost use Rattle.sp_planner.specs.Turns.{IsLaterBook, IsRun};
 ghost use Rattle.sp_session.specs.Logs.{logs_of};
-ghost use Rattle.sp_script.specs.Laws.{IsWithin};
+ghost use Rattle.sp_script.specs.Laws.{IsObservationWithin};
 ghost use Rattle.sp_attending.specs.Runs.{IsServedFrom};
 ghost use Rattle.sp_serving.specs.Serving.{HasEntriesOf};
 
@@ -31,10 +31,10 @@ pub fn finish_serving(
     pruning: bool,
     commands: Commands,
 ) -> Result<Transcript, NoMemory>
-    requires { All (IsWithin (count_of (sizes_of book.old.task.model.sights))) commands }
+    requires { All (IsObservationWithin (count_of (sizes_of book.old.task.model.sights))) commands }
     ensures run { OnOk result (IsRun pruning book.old (picking_words book.old.task.options) book.new) }
     ensures done { OnOk result ((state_of book.new).done ≡ true) }
-    ensures later { IsLater book.old book.new }
+    ensures later { IsLaterBook book.old book.new }
     ensures logs { IfOk result (λ logs. IsServedFrom pruning book.old book.new commands (logs_of logs)) }
     ensures known { IfOk result (λ logs. All (HasEntriesOf book.old.task.model) (logs_of logs)) }
 {

@@ -6,21 +6,21 @@ use Rattle.sp_theory.specs.Points.{count_of}
 use Rattle.sp_theory.specs.Model.{Model}
 use Rattle.sp_theory.specs.Values as theory
 use Rattle.sp_theory.specs.Agreement.{WeightsAgree, NextAgree}
-use Rattle.sp_theory.specs.Logs.{Entry, told, act, observe, unseen, closing, MayEnter, observed, after_entry}
+use Rattle.sp_theory.specs.Logs.{Entry, told, act, observe, unseen, closing, MayEnter, weights_after_observation, after_entry}
 use Rattle.sp_theory.proofs.LogLemmas.{session_same}
 use Rattle.sp_model.specs.declared.parts.Parts.{Parts}
 use Rattle.sp_model.specs.Problem.{problem, sizes_of}
 use Rattle.sp_model.specs.Links.{weights_of}
 use Rattle.sp_faults.specs.Clauses as clause
-use Rattle.sp_faults.specs.Clauses.{IsFirst, entry_clauses}
+use Rattle.sp_faults.specs.Clauses.{IsFirstClause, entry_clauses}
 use Rattle.sp_faults.specs.LogFaults.{EntryBreaks}
 use Rattle.sp_faults.proofs.LogLemmas.{is_answer}
 use Rattle.sp_audit.specs.declared.clause.Clause.{Clause}
 use Rattle.sp_audit.specs.declared.clause.Clause.TheVariants as clauses
 use Rattle.sp_audit.specs.declared.seats.Seat.{Seat}
 use Rattle.sp_audit.specs.Clauses.{clause_of}
-use Rattle.sp_audit.specs.Seats.{session_of, IsSeat, IsAnswerJudged, IsLook}
-use Rattle.sp_audit.specs.Entries.{IsEntered}
+use Rattle.sp_audit.specs.Seats.{session_of, IsReplaySeat, IsAnswerJudged, AreWeightsAfter}
+use Rattle.sp_audit.specs.Entries.{IsEntryAllowed}
 
 -- ---- next weights that were found
 next_some : (m : Model) (o : Option theory.Weights) (w : theory.Weights) → NextAgree m o (Some w) → is_some o ≡ true
@@ -41,7 +41,7 @@ known_in_problem p o h = h
 
 module _ (p : Parts) (es : List theory.Edition) (s : Seat) where
   -- ---- an entry behind the closing answer
-  pub over_wrong : (x : Entry) → s.closed ≡ true → IsFirst (EntryBreaks (problem p) es (session_of p s) x) entry_clauses clause.closing
+  pub over_wrong : (x : Entry) → s.closed ≡ true → IsFirstClause (EntryBreaks (problem p) es (session_of p s) x) entry_clauses clause.closing
   unfolding EntryBreaks
   over_wrong (told e) over = inl (refl, over)
   over_wrong (act e id action) over = inl (refl, over)
@@ -54,15 +54,15 @@ module _ (p : Parts) (es : List theory.Edition) (s : Seat) where
     not_over over = absurd (cc)
 
     -- ---- told
-    pub told_past : (e : ℕ) → length es ≤ e → IsFirst (EntryBreaks (problem p) es (session_of p s) (told e)) entry_clauses clause.edition
+    pub told_past : (e : ℕ) → length es ≤ e → IsFirstClause (EntryBreaks (problem p) es (session_of p s) (told e)) entry_clauses clause.edition
     unfolding EntryBreaks
     told_past e past = inr (not_over, inl (refl, past))
 
-    pub told_older : (e : ℕ) → e < length es → e < s.newest → IsFirst (EntryBreaks (problem p) es (session_of p s) (told e)) entry_clauses clause.older
+    pub told_older : (e : ℕ) → e < length es → e < s.newest → IsFirstClause (EntryBreaks (problem p) es (session_of p s) (told e)) entry_clauses clause.older
     unfolding EntryBreaks
     told_older e less older = inr (not_over, inr ((λ past. absurd (omega (arith, less, past))), inl (refl, older)))
 
-    pub told_enters : IsSeat p s → (e : ℕ) → e < length es → s.newest ≤ e → IsEntered p es s (told e) (record s { newest = e })
+    pub told_enters : IsReplaySeat p s → (e : ℕ) → e < length es → s.newest ≤ e → IsEntryAllowed p es s (told e) (record s { newest = e })
     unfolding MayEnter after_entry
     told_enters known e less newer = record {
       may = (going, newer, less);
@@ -71,7 +71,7 @@ module _ (p : Parts) (es : List theory.Edition) (s : Seat) where
     }
 
     -- ---- answers
-    pub act_wrong : (e id action : ℕ) (w : Clause) → IsAnswerJudged p es s e id action (Some w) → IsFirst (EntryBreaks (problem p) es (session_of p s) (act e id action)) entry_clauses (clause_of w)
+    pub act_wrong : (e id action : ℕ) (w : Clause) → IsAnswerJudged p es s e id action (Some w) → IsFirstClause (EntryBreaks (problem p) es (session_of p s) (act e id action)) entry_clauses (clause_of w)
     unfolding EntryBreaks
     act_wrong e id action clauses.Edition past = inr (not_over, inl (refl, past))
     act_wrong e id action clauses.Older (less, older) = inr (not_over, inr ((λ past. absurd (omega (arith, less, past))), inl (refl, older)))
@@ -80,7 +80,7 @@ module _ (p : Parts) (es : List theory.Edition) (s : Seat) where
         inr (not_over, inr ((λ past. absurd (omega (arith, less, past))), inr ((λ older. absurd (omega (arith, newer, older))), inr ((λ differs. differs is), inl (refl, other)))))
     act_wrong e id action w h = absurd h
 
-    pub act_enters : IsSeat p s → (e id action : ℕ) → IsAnswerJudged p es s e id action None → IsEntered p es s (act e id action) (record s { newest = e; acted = Some action })
+    pub act_enters : IsReplaySeat p s → (e id action : ℕ) → IsAnswerJudged p es s e id action None → IsEntryAllowed p es s (act e id action) (record s { newest = e; acted = Some action })
     unfolding MayEnter after_entry
     act_enters known e id action (less, newer, is, does, own) = record {
       may = (going, newer, is_answer (problem p) es (session_of p s) e id action less is does);
@@ -89,7 +89,7 @@ module _ (p : Parts) (es : List theory.Edition) (s : Seat) where
     }
 
     -- ---- the closing answer
-    pub not_last : (e id action : ℕ) → suc e ≢ length es → IsFirst (EntryBreaks (problem p) es (session_of p s) (closing e id action)) entry_clauses clause.closing
+    pub not_last : (e id action : ℕ) → suc e ≢ length es → IsFirstClause (EntryBreaks (problem p) es (session_of p s) (closing e id action)) entry_clauses clause.closing
     unfolding EntryBreaks
     not_last e id action other = inl (refl, inr other)
 
@@ -99,7 +99,7 @@ module _ (p : Parts) (es : List theory.Edition) (s : Seat) where
       may_close (inl over) = not_over over
       may_close (inr other) = other last
 
-      pub closing_wrong : (w : Clause) → IsAnswerJudged p es s e id action (Some w) → IsFirst (EntryBreaks (problem p) es (session_of p s) (closing e id action)) entry_clauses (clause_of w)
+      pub closing_wrong : (w : Clause) → IsAnswerJudged p es s e id action (Some w) → IsFirstClause (EntryBreaks (problem p) es (session_of p s) (closing e id action)) entry_clauses (clause_of w)
       unfolding EntryBreaks
       closing_wrong clauses.Edition past = inr (may_close, inl (refl, past))
       closing_wrong clauses.Older (less, older) = inr (may_close, inr ((λ past. absurd (omega (arith, less, past))), inl (refl, older)))
@@ -108,7 +108,7 @@ module _ (p : Parts) (es : List theory.Edition) (s : Seat) where
           inr (may_close, inr ((λ past. absurd (omega (arith, less, past))), inr ((λ older. absurd (omega (arith, newer, older))), inr ((λ differs. differs is), inl (refl, other)))))
       closing_wrong w h = absurd h
 
-      pub closing_enters : IsSeat p s → IsAnswerJudged p es s e id action None → IsEntered p es s (closing e id action) (record s { newest = e; closed = true })
+      pub closing_enters : IsReplaySeat p s → IsAnswerJudged p es s e id action None → IsEntryAllowed p es s (closing e id action) (record s { newest = e; closed = true })
       unfolding MayEnter after_entry
       closing_enters known (less, newer, is, does, own) = record {
         may = (going, newer, last, is_answer (problem p) es (session_of p s) e id action less is does);
@@ -117,28 +117,28 @@ module _ (p : Parts) (es : List theory.Edition) (s : Seat) where
       }
 
     -- ---- joint observations
-    pub not_seen : (o : ℕ) → IsLook p s o None → IsFirst (EntryBreaks (problem p) es (session_of p s) (observe o)) entry_clauses clause.belief
+    pub not_seen : (o : ℕ) → AreWeightsAfter p s o None → IsFirstClause (EntryBreaks (problem p) es (session_of p s) (observe o)) entry_clauses clause.belief
     unfolding EntryBreaks
     not_seen o none = inr (not_over, inr ((λ un. un), inr ((λ un. un), inr ((λ un. un), inr ((λ un. un), inl (refl, ap is_some none))))))
 
-    pub observe_enters : IsSeat p s → (o : ℕ) → o < count_of (sizes_of p.sights) → (w : Func) → IsLook p s o (Some w) → IsEntered p es s (observe o) (record s { weights = w; acted = None })
+    pub observe_enters : IsReplaySeat p s → (o : ℕ) → o < count_of (sizes_of p.sights) → (w : Func) → AreWeightsAfter p s o (Some w) → IsEntryAllowed p es s (observe o) (record s { weights = w; acted = None })
     unfolding MayEnter after_entry
     observe_enters known o within w (shape, agrees) = record {
-      may = (going, known_in_problem p o within, next_some (problem p) (observed (problem p) (session_of p s) o) (weights_of p w) agrees);
+      may = (going, known_in_problem p o within, next_some (problem p) (weights_after_observation (problem p) (session_of p s) o) (weights_of p w) agrees);
       known = record { shape = shape; acted = tt };
-      agrees = record { weights = next_weights_agree (problem p) (observed (problem p) (session_of p s) o) (weights_of p w) _ agrees; newest = refl; acted = refl; closed = refl };
+      agrees = record { weights = next_weights_agree (problem p) (weights_after_observation (problem p) (session_of p s) o) (weights_of p w) _ agrees; newest = refl; acted = refl; closed = refl };
     }
 
-    pub not_acted : (o : ℕ) → is_some s.acted ≡ false → IsFirst (EntryBreaks (problem p) es (session_of p s) (unseen o)) entry_clauses clause.belief
+    pub not_acted : (o : ℕ) → is_some s.acted ≡ false → IsFirstClause (EntryBreaks (problem p) es (session_of p s) (unseen o)) entry_clauses clause.belief
     unfolding EntryBreaks
     not_acted o none = inr (not_over, inr ((λ un. un), inr ((λ un. un), inr ((λ un. un), inr ((λ un. un), inl (refl, inl none))))))
 
-    pub seen_though : (o : ℕ) (r : Option Func) → is_some r ≡ true → IsLook p s o r → IsFirst (EntryBreaks (problem p) es (session_of p s) (unseen o)) entry_clauses clause.belief
+    pub seen_though : (o : ℕ) (r : Option Func) → is_some r ≡ true → AreWeightsAfter p s o r → IsFirstClause (EntryBreaks (problem p) es (session_of p s) (unseen o)) entry_clauses clause.belief
     unfolding EntryBreaks
     seen_though o None some looked = absurd (cc)
-    seen_though o (Some w) some (shape, agrees) = inr (not_over, inr ((λ un. un), inr ((λ un. un), inr ((λ un. un), inr ((λ un. un), inl (refl, inr (next_some (problem p) (observed (problem p) (session_of p s) o) (weights_of p w) agrees)))))))
+    seen_though o (Some w) some (shape, agrees) = inr (not_over, inr ((λ un. un), inr ((λ un. un), inr ((λ un. un), inr ((λ un. un), inl (refl, inr (next_some (problem p) (weights_after_observation (problem p) (session_of p s) o) (weights_of p w) agrees)))))))
 
-    pub unseen_enters : IsSeat p s → (o : ℕ) → o < count_of (sizes_of p.sights) → is_some s.acted ≡ true → (r : Option Func) → is_some r ≡ false → IsLook p s o r → IsEntered p es s (unseen o) s
+    pub unseen_enters : IsReplaySeat p s → (o : ℕ) → o < count_of (sizes_of p.sights) → is_some s.acted ≡ true → (r : Option Func) → is_some r ≡ false → AreWeightsAfter p s o r → IsEntryAllowed p es s (unseen o) s
     unfolding MayEnter after_entry
     unseen_enters known o within acted None none looked = record {
       may = (going, known_in_problem p o within, acted, ap is_some looked);

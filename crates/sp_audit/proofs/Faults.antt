@@ -17,11 +17,11 @@ use Rattle.sp_value.specs.Candidates.{CandidateParts, IsCandidate}
 use Rattle.sp_faults.specs.RunFaults.{EventBreaks}
 use Rattle.sp_faults.proofs.LogLemmas.{members_back}
 use Rattle.sp_audit.specs.declared.clause.Clause.TheVariants as clauses
-use Rattle.sp_audit.specs.States.{Contents, account_in, IsStateAfter}
+use Rattle.sp_audit.specs.States.{ReplayContents, account_in, IsStateAfter}
 use Rattle.sp_audit.specs.Judging.{IsWrongNext}
 use Rattle.sp_ledger.proofs.Ours.{own_backup}
 
-module _ (c : Contents) (es : List Event) (rep : IsStateAfter es c) where
+module _ (c : ReplayContents) (es : List Event) (rep : IsStateAfter es c) where
   abbrev t : Task
   t = task_of c.task
 
@@ -46,15 +46,15 @@ module _ (c : Contents) (es : List Event) (rep : IsStateAfter es c) where
       members_back t.model _ _ (subst (λ (y : theory.Edition). EditionsAgree t.model (get_or (account_in c).editions e []) y) (get_or_any (editions book) e [] book.latest has)
       (edition_at-agrees t.model (account_in c).editions (editions book) e [] [] rep.replayed.account.editions tt))
 
-pub after_end_wrong : (c : Contents) (x : Event) → c.done ≡ true → IsWrongNext c x clauses.AfterEnd
+pub after_end_wrong : (c : ReplayContents) (x : Event) → c.done ≡ true → IsWrongNext c x clauses.AfterEnd
 unfolding EventBreaks
 after_end_wrong c x over es rep = inl (refl, book_done c es rep ∙ over)
 
-pub edition_wrong : (c : Contents) → c.done ≡ false → (k e a : ℕ) (links : List ℕ) → length c.editions ≤ e → IsWrongNext c (settle k e a links) clauses.Edition
+pub edition_wrong : (c : ReplayContents) → c.done ≡ false → (k e a : ℕ) (links : List ℕ) → length c.editions ≤ e → IsWrongNext c (settle k e a links) clauses.Edition
 unfolding EventBreaks
 edition_wrong c going k e a links past es rep = inr (going_on c es rep going, inl (refl, (let count = book_count c es rep in omega (arith, past, count))))
 
-pub backup_wrong : (c : Contents) → c.done ≡ false → (d : CandidateParts) → IsCandidate d → slice_get c.editions d.base.number ≡ Some d.base
+pub backup_wrong : (c : ReplayContents) → c.done ≡ false → (d : CandidateParts) → IsCandidate d → slice_get c.editions d.base.number ≡ Some d.base
     → (k e a : ℕ) (links : List ℕ) → d.belief ≡ k → d.base.number ≡ e → ¬ ((d.action ≡ a) × (d.links ≡ links)) → e < length c.editions → IsWrongNext c (settle k e a links) clauses.Backup
 unfolding EventBreaks
 backup_wrong c going d is ours k e a links at on other less es rep = inr (going_on c es rep going, inr ((λ past. absurd (let count = book_count c es rep in omega (arith, less, past, count))), inl (refl, not_backup)))
@@ -81,7 +81,7 @@ backup_wrong c going d is ours k e a links at on other less es rep = inr (going_
         links_of : theory.Edition → ℕ → List ℕ
         links_of edition a = links_at m edition (weights_at c.task k) a
 
-pub publish_wrong : (c : Contents) → c.done ≡ false → (k : ℕ) → k < length c.improved → get_or c.improved k false ≡ false → IsWrongNext c publish clauses.Publish
+pub publish_wrong : (c : ReplayContents) → c.done ≡ false → (k : ℕ) → k < length c.improved → get_or c.improved k false ≡ false → IsWrongNext c publish clauses.Publish
 unfolding EventBreaks
 publish_wrong c going k less down es rep = inr (
   going_on c es rep going,
@@ -102,6 +102,6 @@ publish_wrong c going k less down es rep = inr (
   ),
 )
 
-pub end_wrong : (c : Contents) → c.done ≡ false → 0 < c.stages_left → IsWrongNext c end clauses.End
+pub end_wrong : (c : ReplayContents) → c.done ≡ false → 0 < c.stages_left → IsWrongNext c end clauses.End
 unfolding EventBreaks
 end_wrong c going left es rep = inr (going_on c es rep going, inr ((λ un. un), inr ((λ un. un), inr ((λ un. un), inr ((λ un. un), inl (refl, λ none. let same = rep.replayed.account.stages_left in absurd (omega (arith, left, none, same))))))))

@@ -10,13 +10,13 @@ use Rattle.sp_theory.proofs.LogLemmas.{edition_same, after_entry_agrees, may_ent
 use Rattle.sp_model.specs.declared.parts.Parts.{Parts}
 use Rattle.sp_model.specs.Problem.{problem}
 use Rattle.sp_faults.specs.Clauses as clause
-use Rattle.sp_faults.specs.Clauses.{IsFirst, entry_clauses}
+use Rattle.sp_faults.specs.Clauses.{IsFirstClause, entry_clauses}
 use Rattle.sp_faults.specs.LogFaults.{EntryBreaks, IsEntryFault, IsWrongLog}
 use Rattle.sp_faults.proofs.Firsts.{first_alike}
 use Rattle.sp_faults.proofs.LogLemmas.{breaks_too, serves, session_back}
 use Rattle.sp_audit.specs.declared.seats.Seat.{Seat}
 use Rattle.sp_audit.specs.Seats.{session_of, IsOpeningSeat}
-use Rattle.sp_audit.specs.Entries.{IsEntered, IsSeatAfter}
+use Rattle.sp_audit.specs.Entries.{IsEntryAllowed, IsSeatAfter}
 
 -- ---- sessions and editions
 sessions_trans : (m : Model) (s t u : Session) → SessionsAgree m s t → SessionsAgree m t u → SessionsAgree m s u
@@ -50,7 +50,7 @@ module _ (p : Parts) (es : List Edition) where
   unfolding IsLog session_after
   seat_opened s is = record { known = is.known; log = tt; agrees = is.agrees }
 
-  pub seat_goes_on : (xs : List Entry) (s : Seat) (x : Entry) (t : Seat) → IsSeatAfter p es xs s → IsEntered p es s x t → IsSeatAfter p es (xs ++ x ∷ []) t
+  pub seat_goes_on : (xs : List Entry) (s : Seat) (x : Entry) (t : Seat) → IsSeatAfter p es xs s → IsEntryAllowed p es s x t → IsSeatAfter p es (xs ++ x ∷ []) t
   seat_goes_on xs s x t is enters = record {
     known = enters.known;
     log = log_push (problem p) (all_of es) start xs x is.log
@@ -59,7 +59,7 @@ module _ (p : Parts) (es : List Edition) where
         (sessions_trans (problem p) _ _ _ enters.agrees (after_entry_agrees (problem p) (session_of p s) (session_after (problem p) start xs) is.agrees x));
   }
 
-  breaks_there : (s : Session) (t : Session) → SessionsAgree (problem p) s t → (x : Entry) (c : clause.Clause) → IsFirst (EntryBreaks (problem p) es s x) entry_clauses c → IsFirst (EntryBreaks (problem p) es t x) entry_clauses c
+  breaks_there : (s : Session) (t : Session) → SessionsAgree (problem p) s t → (x : Entry) (c : clause.Clause) → IsFirstClause (EntryBreaks (problem p) es s x) entry_clauses c → IsFirstClause (EntryBreaks (problem p) es t x) entry_clauses c
   breaks_there s t agree x c first =
       first_alike (EntryBreaks (problem p) es s x) (EntryBreaks (problem p) es t x)
       (breaks_too (problem p) es es (editions_same (problem p) es) s t agree x)
@@ -67,7 +67,7 @@ module _ (p : Parts) (es : List Edition) where
 
   -- a log that is wrong at an entry
   pub wrong_entry : (xs : List Entry) (k : ℕ) (s : Seat) (x : Entry) (rest : List Entry) → IsSeatAfter p es (take k xs) s → drop k xs ≡ x ∷ rest → k < length xs
-      → (c : clause.Clause) → IsFirst (EntryBreaks (problem p) es (session_of p s) x) entry_clauses c → IsWrongLog (problem p) es xs k c
+      → (c : clause.Clause) → IsFirstClause (EntryBreaks (problem p) es (session_of p s) x) entry_clauses c → IsWrongLog (problem p) es xs k c
   wrong_entry xs k s x rest is at less c first = record {
     within = omega (arith, less);
     log = is.log;

@@ -18,7 +18,7 @@ use Rattle.sp_audit.specs.declared.logs.WrongLog.{WrongLog}
 use Rattle.sp_audit.specs.Clauses.{clause_of}
 use Rattle.sp_audit.specs.Seats.{AreOfModel, editions_in}
 use Rattle.sp_audit.specs.Logs.{AreLogsJudged}
-use Rattle.sp_audit.specs.States.{Contents, IsStateAfter}
+use Rattle.sp_audit.specs.States.{ReplayContents, IsStateAfter}
 use Rattle.sp_audit.specs.ReplayParts.{ReplayParts, IsReplay}
 use Rattle.sp_audit.specs.Verdicts.{AreLegal, AreWrong, run_editions}
 use Rattle.sp_audit.specs.Replays.{IsReplayOf, IsLastEdition}
@@ -26,7 +26,7 @@ use Rattle.sp_audit.proofs.Reading.{some_edition}
 use Rattle.sp_audit.proofs.Transcripts.{legal_too, wrong_too}
 use Rattle.sp_audit.proofs.WholeRuns.{replayed_is_legal}
 
-module _ (c : Contents) (es : List Event) (state : IsStateAfter es c) where
+module _ (c : ReplayContents) (es : List Event) (state : IsStateAfter es c) where
   pub of_model : AreOfModel c.task.model c.editions
   of_model k d less = ap (λ (t : TaskParts). t.model) (state.numbered k d less).1
 

@@ -22,14 +22,14 @@ use Rattle.sp_ledger.proofs.Accounting.{account_pruned}
 use Rattle.sp_ledger.proofs.Replaying.{goes_on, latest_agrees, some_agree}
 use Rattle.sp_ledger.proofs.Distinct.{tidy_book}
 use Rattle.sp_audit.specs.declared.clause.Clause.TheVariants as clauses
-use Rattle.sp_audit.specs.States.{Contents, account_in, IsStateAfter, Follows, edition_with, with_edition}
+use Rattle.sp_audit.specs.States.{ReplayContents, account_in, IsStateAfter, Follows, edition_with, with_edition}
 use Rattle.sp_audit.specs.Judging.{IsWrongNext}
 use Rattle.sp_audit.specs.Pruning.{IsLeftOf}
 use Rattle.sp_ledger.proofs.Numbers.{numbered_more}
 use Rattle.sp_audit.proofs.Following.{lawful, some}
 use Rattle.sp_audit.proofs.Faults.{going_on}
 
-module _ (c : Contents) (p : Parts) (same : p ≡ c.task.model) (members : List Member) (is : edition_of p members ≡ last_of (account_in c).editions) (pairs : List (ℕ × ℕ)) (es : List Event) (rep : IsStateAfter es c) where
+module _ (c : ReplayContents) (p : Parts) (same : p ≡ c.task.model) (members : List Member) (is : edition_of p members ≡ last_of (account_in c).editions) (pairs : List (ℕ × ℕ)) (es : List Event) (rep : IsStateAfter es c) where
   abbrev t : Task
   t = task_of c.task
 
@@ -80,14 +80,14 @@ module _ (c : Contents) (p : Parts) (same : p ≡ c.task.model) (members : List 
         account_is = let editions_is = map-append members_in c.editions (edition_with c left ∷ []) in (λ i. let r : Account = record f { editions = editions_is i } in r)
 
 -- ---- as the calls say it
-pub prune_wrong : (c : Contents) → c.done ≡ false → (pairs : List (ℕ × ℕ))
+pub prune_wrong : (c : ReplayContents) → c.done ≡ false → (pairs : List (ℕ × ℕ))
     → ((es : List Event) → IsStateAfter es c → ¬ ((0 < length pairs) × CanPrune (task_of c.task).model (replay (task_of c.task) (opening (task_of c.task)) es).latest pairs)) → IsWrongNext c (prune pairs) clauses.Prune
 unfolding EventBreaks
 prune_wrong c going pairs wrong es rep = inr (going_on c es rep going, inr ((λ un. un), inr ((λ un. un), inr ((λ un. un), inl (refl, wrong es rep)))))
 
-pub pruned_follows : (c : Contents) (going : c.done ≡ false) (p : Parts) (same : p ≡ c.task.model) (members : List Member) (is : edition_of p members ≡ last_of (account_in c).editions) (pairs : List (ℕ × ℕ)) → 0 < length pairs
-    → (left : List Member) → IsLeftOf p members pairs (Some left) → (d : Contents) → d ≡ with_edition c (edition_with c left) → Follows c (prune pairs) d
+pub pruned_follows : (c : ReplayContents) (going : c.done ≡ false) (p : Parts) (same : p ≡ c.task.model) (members : List Member) (is : edition_of p members ≡ last_of (account_in c).editions) (pairs : List (ℕ × ℕ)) → 0 < length pairs
+    → (left : List Member) → IsLeftOf p members pairs (Some left) → (d : ReplayContents) → d ≡ with_edition c (edition_with c left) → Follows c (prune pairs) d
 pruned_follows c going p same members is pairs more left ok d is_d = record {
-  task = ap (λ (y : Contents). y.task) is_d;
+  task = ap (λ (y : ReplayContents). y.task) is_d;
   replay = λ es rep. subst (IsStateAfter (es ++ prune pairs ∷ [])) (sym is_d) (pruned_replay c p same members is pairs es rep going left ok more);
 }

@@ -13,9 +13,9 @@ use Rattle.sp_ledger.specs.declared.flags.Choice.TheVariants.{Neither, New, Old}
 use Rattle.sp_ledger.proofs.Numbers as numbers
 use Rattle.sp_ledger.proofs.Ours.{own_belief}
 use Rattle.sp_ledger.proofs.Reading as reading
-use Rattle.sp_audit.specs.States.{Contents, account_in, IsStateAfter, choice_for}
+use Rattle.sp_audit.specs.States.{ReplayContents, account_in, IsStateAfter, choice_for}
 
-module _ (es : List Event) (c : Contents) (state : IsStateAfter es c) where
+module _ (es : List Event) (c : ReplayContents) (state : IsStateAfter es c) where
   -- there is an edition
   pub some_edition : 0 < length c.editions
   some_edition = numbers.some_edition c.task (replay (task_of c.task) (opening (task_of c.task)) es) (account_in c) state.replayed.account c.editions refl

@@ -6,7 +6,7 @@ use Rattle.sp_theory.specs.Logs.{Log}
 use Rattle.sp_theory.specs.Laws.{IsSound, AllClose}
 use Rattle.sp_value.specs.Tasks.{TaskParts, IsTask, task_of}
 use Rattle.sp_faults.specs.Clauses.{Clause}
-use Rattle.sp_faults.specs.RunFaults.{AreSampled}
+use Rattle.sp_faults.specs.RunFaults.{AreSettlesSampled}
 use Rattle.sp_audit.specs.Logs.{AreAllSeen}
 use Rattle.sp_audit.specs.Verdicts.{AreLegal, AreWrong}
 
@@ -21,7 +21,7 @@ IsWrongOnce = (t : Task) (es : List Event) (logs : List Log) (session other : Op
 
 -- and where settles are at sampled beliefs and joint observations are the model's, nothing is neither legal nor wrong
 abbrev pub NothingIsNeither : Type 0
-NothingIsNeither = (t : Task) (es : List Event) (logs : List Log) → AreSampled t es → AreAllSeen t.model logs → ¬ AreLegal t es logs
+NothingIsNeither = (t : Task) (es : List Event) (logs : List Log) → AreSettlesSampled t es → AreAllSeen t.model logs → ¬ AreLegal t es logs
     → ¬ ((session : Option ℕ) (n : ℕ) (c : Clause) → ¬ AreWrong t es logs session n c)
 
 -- whoever planned it: the vectors of a legal run are lower bounds, its values at sampled beliefs never fall, and its backups are close to the exact ones

@@ -3,7 +3,7 @@ use Rattle.std.specs.Prelude.{◌≡◌, ◌≢◌, ℕ, ◌<◌, ◌≤◌, Lis
 use Rattle.sp_dd.specs.Func.{Func}
 use Rattle.sp_theory.specs.Values as theory
 use Rattle.sp_theory.specs.Agreement.{NextAgree}
-use Rattle.sp_theory.specs.Logs.{Session, opening_session, observed}
+use Rattle.sp_theory.specs.Logs.{Session, opening_session, weights_after_observation}
 use Rattle.sp_theory.specs.SessionLaws.{SessionsAgree}
 use Rattle.sp_model.specs.declared.parts.Parts.{Parts}
 use Rattle.sp_model.specs.Problem.{problem, shape_of}
@@ -19,13 +19,13 @@ abbrev pub session_of : Parts → Seat → Session
 session_of p s = record { weights = weights_of p s.weights; newest = s.newest; acted = s.acted; closed = s.closed }
 
 -- what holds of each seat: its weights are on the model's scope, and the action of the last answer is the model's
-pub record IsSeat (p : Parts) (s : Seat) : Type 0 where
+pub record IsReplaySeat (p : Parts) (s : Seat) : Type 0 where
   pub shape : s.weights.shape ≡ shape_of p
   pub acted : IfSome s.acted (λ a. a < length p.actions)
 
 -- the session before any entry
 pub record IsOpeningSeat (p : Parts) (s : Seat) : Type 0 where
-  pub known : IsSeat p s
+  pub known : IsReplaySeat p s
   pub agrees : SessionsAgree (problem p) (session_of p s) (opening_session (problem p))
 
 abbrev pub editions_in : List EditionParts → List theory.Edition
@@ -47,6 +47,6 @@ IsAnswerJudged p es s e id action None =
 IsAnswerJudged p es s e id action (Some other) = ⊥
 
 -- what the session's weights become by a joint observation
-abbrev pub IsLook : Parts → Seat → ℕ → Option Func → Type 0
-IsLook p s o None = observed (problem p) (session_of p s) o ≡ None
-IsLook p s o (Some w) = (w.shape ≡ shape_of p) × NextAgree (problem p) (observed (problem p) (session_of p s) o) (Some (weights_of p w))
+abbrev pub AreWeightsAfter : Parts → Seat → ℕ → Option Func → Type 0
+AreWeightsAfter p s o None = weights_after_observation (problem p) (session_of p s) o ≡ None
+AreWeightsAfter p s o (Some w) = (w.shape ≡ shape_of p) × NextAgree (problem p) (weights_after_observation (problem p) (session_of p s) o) (Some (weights_of p w))

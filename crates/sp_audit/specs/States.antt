@@ -17,7 +17,7 @@ use Rattle.sp_ledger.specs.Opening.{AreNumbered}
 use Rattle.sp_audit.specs.declared.states.RunState.{RunState}
 
 -- a replay as lists and numbers
-pub record Contents : Type 0 where
+pub record ReplayContents : Type 0 where
   pub task : TaskParts
   pub editions : List EditionParts
   pub records : ℕ
@@ -30,7 +30,7 @@ pub record Contents : Type 0 where
   pub done : Bool
 
 -- the contents of a replay
-abbrev pub contents : RunState → Contents
+abbrev pub contents : RunState → ReplayContents
 contents r = record {
   task = r.task;
   editions = map arc_value r.editions.items;
@@ -45,7 +45,7 @@ contents r = record {
 }
 
 -- the account in them
-abbrev pub account_in : Contents → Account
+abbrev pub account_in : ReplayContents → Account
 account_in c = record {
   records = c.records;
   editions = map members_in c.editions;
@@ -58,7 +58,7 @@ account_in c = record {
 }
 
 -- the contents are those of the book after these events, which may come one after another
-pub record IsStateAfter (es : List Event) (c : Contents) : Type 0 where
+pub record IsStateAfter (es : List Event) (c : ReplayContents) : Type 0 where
   pub task : IsTask c.task
   pub replayed : IsReplayed (task_of c.task) es (account_in c)
   pub numbered : AreNumbered c.task c.editions
@@ -67,11 +67,11 @@ pub record IsStateAfter (es : List Event) (c : Contents) : Type 0 where
   pub few : c.records ≤ length es + 1
 
 -- the contents of some replay
-abbrev pub IsState : Contents → Type 0
-IsState c = (es : List Event) × IsStateAfter es c
+abbrev pub IsReplayState : ReplayContents → Type 0
+IsReplayState c = (es : List Event) × IsStateAfter es c
 
 -- the event leads from one to the other, of the same task
-pub record Follows (c : Contents) (x : Event) (d : Contents) : Type 0 where
+pub record Follows (c : ReplayContents) (x : Event) (d : ReplayContents) : Type 0 where
   pub task : d.task ≡ c.task
   pub replay : (es : List Event) → IsStateAfter es c → IsStateAfter (es ++ x ∷ []) d
 
@@ -80,28 +80,28 @@ abbrev pub settle_of : CandidateParts → Event
 settle_of c = settle c.belief c.base.number c.action c.links
 
 -- the member of the candidate's record
-abbrev pub new_member : Contents → CandidateParts → Member
+abbrev pub new_member : ReplayContents → CandidateParts → Member
 new_member c d = record { id = c.records; action = d.action; vector = d.vector }
 
 -- what the account chooses
-abbrev pub choice_for : Contents → CandidateParts → Choice
+abbrev pub choice_for : ReplayContents → CandidateParts → Choice
 choice_for c d = by_account (account_in c) d.belief (dot (problem c.task.model) (weights_at c.task d.belief) (vector_of c.task.model d.vector)) Neither New Old
 
 -- the member is the greatest one of the latest edition at the belief
-abbrev pub IsGreatestAtBelief : Contents → ℕ → Member → Type 0
-IsGreatestAtBelief c k x = member_of c.task.model x ≡ greatest_member (problem c.task.model) (last_of (account_in c).editions) (weights_at c.task k)
+abbrev pub IsGreatestInReplay : ReplayContents → ℕ → Member → Type 0
+IsGreatestInReplay c k x = member_of c.task.model x ≡ greatest_member (problem c.task.model) (last_of (account_in c).editions) (weights_at c.task k)
 
 -- what enters the grown list: nothing, the new member or the old one, as the account chooses
-abbrev pub IsEntrant : Contents → CandidateParts → Option Member → Type 0
+abbrev pub IsEntrant : ReplayContents → CandidateParts → Option Member → Type 0
 IsEntrant c d None = choice_for c d ≡ Neither
-IsEntrant c d (Some x) = IsMemberOf c.task.model x × (((choice_for c d ≡ New) × (x ≡ new_member c d)) ⊎ ((choice_for c d ≡ Old) × IsGreatestAtBelief c d.belief x))
+IsEntrant c d (Some x) = IsMemberOf c.task.model x × (((choice_for c d ≡ New) × (x ≡ new_member c d)) ⊎ ((choice_for c d ≡ Old) × IsGreatestInReplay c d.belief x))
 
 -- one record more
-abbrev pub recorded : Contents → Contents
-recorded c = record c { records = c.records + 1 }
+abbrev pub contents_with_record : ReplayContents → ReplayContents
+contents_with_record c = record c { records = c.records + 1 }
 
 -- a member enters, whose worths are at hand
-abbrev pub with_member : Contents → Member → Contents
+abbrev pub with_member : ReplayContents → Member → ReplayContents
 with_member c x = record c {
   grown = c.grown ++ x ∷ [];
   improved = map (raised_at c.worths c.latest_values c.improved) (range_with_len 0 (length c.improved));
@@ -110,8 +110,8 @@ with_member c x = record c {
 
 -- ---- the other events
 -- the grown list becomes that edition
-abbrev pub published : Contents → EditionParts → Contents
-published c e = record c {
+abbrev pub contents_with_edition : ReplayContents → EditionParts → ReplayContents
+contents_with_edition c e = record c {
   editions = c.editions ++ e ∷ [];
   grown = [];
   improved = replicate (length c.improved) false;
@@ -121,16 +121,16 @@ published c e = record c {
 }
 
 -- the edition of the grown list
-abbrev pub grown_edition : Contents → EditionParts
+abbrev pub grown_edition : ReplayContents → EditionParts
 grown_edition c = record { number = length c.editions; task = c.task; members = c.grown }
 
-abbrev pub ended : Contents → Contents
-ended c = record c { done = true }
+abbrev pub contents_at_end : ReplayContents → ReplayContents
+contents_at_end c = record c { done = true }
 
 -- these members as the next edition
-abbrev pub edition_with : Contents → List Member → EditionParts
+abbrev pub edition_with : ReplayContents → List Member → EditionParts
 edition_with c members = record { number = length c.editions; task = c.task; members = members }
 
 -- that edition is the latest
-abbrev pub with_edition : Contents → EditionParts → Contents
+abbrev pub with_edition : ReplayContents → EditionParts → ReplayContents
 with_edition c e = record c { editions = c.editions ++ e ∷ [] }

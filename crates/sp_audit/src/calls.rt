@@ -7,7 +7,7 @@ ghost use Rattle.sp_model.specs.Problem.{problem};
 ghost use Rattle.sp_value.specs.Tasks.{task_of};
 ghost use Rattle.sp_value.specs.Events.{events_of};
 ghost use Rattle.sp_session.specs.Logs.{logs_of};
-ghost use Rattle.sp_faults.specs.RunFaults.{AreSampled};
+ghost use Rattle.sp_faults.specs.RunFaults.{AreSettlesSampled};
 ghost use Rattle.sp_audit.specs.Logs.{AreAllSeen};
 ghost use Rattle.sp_audit.specs.Verdicts.{IsVerdict, run_editions, values_after};
 ghost use Rattle.sp_audit.specs.Replays.{IsFirstOther, IsLastEdition, IsReplayOf};
@@ -23,7 +23,7 @@ use std::sync::Arc;
 
 /// Whether a run and its logs are legal: the run's events first, then the logs in order. `judged` gives the replay besides.
 pub fn audit(alloc: Global, run: &Run, transcript: &Transcript) -> Result<Verdict, NoMemory>
-    requires sampled { AreSampled (task_of (arc_value run.now.task)) (events_of run.now.events) }
+    requires sampled { AreSettlesSampled (task_of (arc_value run.now.task)) (events_of run.now.events) }
     requires seen { AreAllSeen (problem (arc_value run.now.task).model) (logs_of transcript.now) }
     ensures { IfOk result (IsVerdict (task_of (arc_value run.now.task)) (events_of run.now.events) (logs_of transcript.now)) }
 {

@@ -19,7 +19,7 @@ use std::sync::Arc;
 impl Seat {
     ghost use Rattle.std.specs.Prelude.{[], ◌∷◌};
     ghost use Rattle.sp_faults.specs.LogFaults.{AreSeen};
-    ghost use Rattle.sp_audit.specs.Seats.{AreOfModel, IsSeat, editions_in};
+    ghost use Rattle.sp_audit.specs.Seats.{AreOfModel, IsReplaySeat, editions_in};
     ghost use Rattle.sp_audit.specs.Entries.{IsEntryJudged};
 
     /// Judges the next entry, and takes it where nothing is wrong with it.
@@ -31,7 +31,7 @@ impl Seat {
         entry: &Entry,
     ) -> Result<Option<Clause>, NoMemory>
         requires editions { AreOfModel model.now (map (λ e. arc_value e) editions.now) }
-        requires seat { IsSeat model.now self.old }
+        requires seat { IsReplaySeat model.now self.old }
         requires seen { AreSeen (problem model.now) (entry_of entry.now ∷ []) }
         ensures { IfOk result (IsEntryJudged model.now (editions_in (map (λ e. arc_value e) editions.now)) self.old (entry_of entry.now) self.new) }
     {
@@ -62,7 +62,7 @@ impl Seat {
         editions: &[Arc<Edition>],
         edition: u64,
     ) -> Option<Clause>
-        requires seat { IsSeat _model.now self.old }
+        requires seat { IsReplaySeat _model.now self.old }
         requires going { self.old.closed ≡ false }
         ensures { IsEntryJudged _model.now (editions_in (map (λ e. arc_value e) editions.now)) self.old (told edition) self.new result }
     {
@@ -87,7 +87,7 @@ impl Seat {
         action: u64,
     ) -> Result<Option<Clause>, NoMemory>
         requires editions { AreOfModel model.now (map (λ e. arc_value e) editions.now) }
-        requires seat { IsSeat model.now self.old }
+        requires seat { IsReplaySeat model.now self.old }
         requires going { self.old.closed ≡ false }
         ensures { IfOk result (IsEntryJudged model.now (editions_in (map (λ e. arc_value e) editions.now)) self.old (act edition member action) self.new) }
     {
@@ -109,7 +109,7 @@ impl Seat {
         _editions: &[Arc<Edition>],
         observation: u64,
     ) -> Result<Option<Clause>, NoMemory>
-        requires seat { IsSeat model.now self.old }
+        requires seat { IsReplaySeat model.now self.old }
         requires going { self.old.closed ≡ false }
         requires observation { observation < count_of (sizes_of model.now.sights) }
         ensures { IfOk result (IsEntryJudged model.now (editions_in (map (λ e. arc_value e) _editions.now)) self.old (observe observation) self.new) }
@@ -132,7 +132,7 @@ impl Seat {
         _editions: &[Arc<Edition>],
         observation: u64,
     ) -> Result<Option<Clause>, NoMemory>
-        requires seat { IsSeat model.now self.old }
+        requires seat { IsReplaySeat model.now self.old }
         requires going { self.old.closed ≡ false }
         requires observation { observation < count_of (sizes_of model.now.sights) }
         ensures { IfOk result (IsEntryJudged model.now (editions_in (map (λ e. arc_value e) _editions.now)) self.old (unseen observation) self.new) }
@@ -158,7 +158,7 @@ impl Seat {
         action: u64,
     ) -> Result<Option<Clause>, NoMemory>
         requires editions { AreOfModel model.now (map (λ e. arc_value e) editions.now) }
-        requires seat { IsSeat model.now self.old }
+        requires seat { IsReplaySeat model.now self.old }
         requires going { self.old.closed ≡ false }
         ensures { IfOk result (IsEntryJudged model.now (editions_in (map (λ e. arc_value e) editions.now)) self.old (closing edition member action) self.new) }
     {

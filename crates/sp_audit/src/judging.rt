@@ -23,9 +23,9 @@ fn is_of(candidate: &Candidate, action: u64, links: &Ids) -> bool
 }
 
 impl RunState {
-    ghost use Rattle.sp_audit.specs.States.{contents, IsState, edition_with, with_edition};
+    ghost use Rattle.sp_audit.specs.States.{contents, IsReplayState, edition_with, with_edition};
     ghost use Rattle.std.specs.Prelude.{[], ◌∷◌};
-    ghost use Rattle.sp_faults.specs.RunFaults.{AreSampled};
+    ghost use Rattle.sp_faults.specs.RunFaults.{AreSettlesSampled};
     ghost use Rattle.sp_audit.specs.Judging.{IsEventJudged};
 
     /// A settle: on an edition that is there, with the backup at its belief on it.
@@ -37,7 +37,7 @@ impl RunState {
         links: &Ids,
         kept: &mut Projections,
     ) -> Result<Option<Clause>, NoMemory>
-        requires replays { IsState (contents self.old) }
+        requires replays { IsReplayState (contents self.old) }
         requires going { self.old.done ≡ false }
         requires sampled { belief < (contents self.old).task.options.beliefs }
         requires few { self.old.records + 1 < 2 ^ 64 }
@@ -57,7 +57,7 @@ impl RunState {
 
     /// A publication: all flags are up.
     pub(crate) fn judge_publish(&mut self) -> Result<Option<Clause>, NoMemory>
-        requires replays { IsState (contents self.old) }
+        requires replays { IsReplayState (contents self.old) }
         requires going { self.old.done ≡ false }
         ensures { IfOk result (IsEventJudged (contents self.old) publish (contents self.new)) }
     {
@@ -70,7 +70,7 @@ impl RunState {
 
     /// A prune: at least one pair, and each may go in turn.
     pub(crate) fn judge_prune(&mut self, pairs: &Pairs) -> Result<Option<Clause>, NoMemory>
-        requires replays { IsState (contents self.old) }
+        requires replays { IsReplayState (contents self.old) }
         requires going { self.old.done ≡ false }
         ensures { IfOk result (IsEventJudged (contents self.old) (prune pairs.now) (contents self.new)) }
     {
@@ -111,8 +111,8 @@ impl RunState {
         event: &Event,
         kept: &mut Projections,
     ) -> Result<Option<Clause>, NoMemory>
-        requires replays { IsState (contents self.old) }
-        requires sampled { AreSampled (task_of (contents self.old).task) (event_of event.now ∷ []) }
+        requires replays { IsReplayState (contents self.old) }
+        requires sampled { AreSettlesSampled (task_of (contents self.old).task) (event_of event.now ∷ []) }
         requires few { self.old.records + 1 < 2 ^ 64 }
         ensures { IfOk result (IsEventJudged (contents self.old) (event_of event.now) (contents self.new)) }
     {
@@ -134,7 +134,7 @@ impl RunState {
 
     /// The end: no stage is left.
     pub(crate) fn judge_end(&mut self) -> Option<Clause>
-        requires replays { IsState (contents self.old) }
+        requires replays { IsReplayState (contents self.old) }
         requires going { self.old.done ≡ false }
         ensures { IsEventJudged (contents self.old) end (contents self.new) result }
     {

@@ -7,8 +7,8 @@ ghost use Rattle.sp_model.specs.Problem.{problem};
 ghost use Rattle.sp_value.specs.Tasks.{task_of};
 ghost use Rattle.sp_value.specs.Events.{events_of};
 ghost use Rattle.sp_session.specs.Logs.{logs_of};
-ghost use Rattle.sp_faults.specs.RunFaults.{AreSampled};
-ghost use Rattle.sp_audit.specs.States.{contents, IsState, IsStateAfter};
+ghost use Rattle.sp_faults.specs.RunFaults.{AreSettlesSampled};
+ghost use Rattle.sp_audit.specs.States.{contents, IsReplayState, IsStateAfter};
 ghost use Rattle.sp_audit.specs.Logs.{AreAllSeen};
 ghost use Rattle.sp_audit.specs.Replays.{IsJudged, IsReplayOf};
 
@@ -41,7 +41,7 @@ pub enum Judgment {
 
 /// Judges a run, and then its logs in order. Each event is replayed once.
 pub fn judged(alloc: Global, run: &Run, transcript: &Transcript) -> Result<Judgment, NoMemory>
-    requires sampled { AreSampled (task_of (arc_value run.now.task)) (events_of run.now.events) }
+    requires sampled { AreSettlesSampled (task_of (arc_value run.now.task)) (events_of run.now.events) }
     requires seen { AreAllSeen (problem (arc_value run.now.task).model) (logs_of transcript.now) }
     ensures { IfOk result (IsJudged (arc_value run.now.task) (events_of run.now.events) (logs_of transcript.now)) }
 {
@@ -59,7 +59,7 @@ pub fn judged(alloc: Global, run: &Run, transcript: &Transcript) -> Result<Judgm
 
 /// Judges the logs behind a legal run.
 fn with_logs(alloc: Global, state: RunState, transcript: &Transcript) -> Result<Judgment, NoMemory>
-    requires state { IsState (contents state) }
+    requires state { IsReplayState (contents state) }
     requires over { state.done ≡ true }
     requires seen { AreAllSeen (problem (contents state).task.model) (logs_of transcript.now) }
     ensures { IfOk result (λ j. (es : List theory.Event) → IsStateAfter es (contents state) → IsJudged (contents state).task es (logs_of transcript.now) j) }
@@ -85,7 +85,7 @@ fn with_logs(alloc: Global, state: RunState, transcript: &Transcript) -> Result<
 
 /// What a run amounts to, of which this is kept.
 fn replay_of(alloc: Global, state: RunState) -> Result<Replay, NoMemory>
-    requires { IsState (contents state) }
+    requires { IsReplayState (contents state) }
     ensures { IfOk result (λ r. (es : List theory.Event) → IsStateAfter es (contents state) → IsReplayOf (contents state).task es r) }
 {
     let values = first_values(alloc, &state.editions)?;

@@ -22,7 +22,7 @@ pub(crate) enum JudgedRun {
 }
 
 impl JudgedRun {
-    ghost use Rattle.sp_faults.specs.RunFaults.{AreSampled};
+    ghost use Rattle.sp_faults.specs.RunFaults.{AreSettlesSampled};
     ghost use Rattle.sp_audit.specs.RunsJudged.{IsRunJudged};
 
     /// Judges the events one after another.
@@ -32,7 +32,7 @@ impl JudgedRun {
         events: &[Event],
         kept: &mut Projections,
     ) -> Result<JudgedRun, NoMemory>
-        requires { AreSampled (task_of (arc_value task)) (events_of events.now) }
+        requires { AreSettlesSampled (task_of (arc_value task)) (events_of events.now) }
         ensures { IfOk result (IsRunJudged (arc_value task) (events_of events.now)) }
     {
         let mut state = RunState::opened(alloc, task)?;

@@ -26,7 +26,7 @@ pub(crate) struct Seat {
 }
 
 impl Seat {
-    ghost use Rattle.sp_audit.specs.Seats.{AreOfModel, IsAnswerJudged, IsLook, IsOpeningSeat, IsSeat, editions_in};
+    ghost use Rattle.sp_audit.specs.Seats.{AreOfModel, IsAnswerJudged, AreWeightsAfter, IsOpeningSeat, IsReplaySeat, editions_in};
 
     /// Before any entry.
     pub(crate) fn opened(alloc: Global, model: &Model) -> Result<Seat, NoMemory>
@@ -54,7 +54,7 @@ impl Seat {
         action: u64,
     ) -> Result<Option<Clause>, NoMemory>
         requires editions { AreOfModel model.now (map (λ e. arc_value e) editions.now) }
-        requires seat { IsSeat model.now self.now }
+        requires seat { IsReplaySeat model.now self.now }
         ensures { IfOk result (IsAnswerJudged model.now (editions_in (map (λ e. arc_value e) editions.now)) self.now edition member action) }
     {
         if edition >= editions.len() as u64 {
@@ -82,9 +82,9 @@ impl Seat {
         model: &Model,
         observation: u64,
     ) -> Result<Option<Weights>, NoMemory>
-        requires seat { IsSeat model.now self.now }
+        requires seat { IsReplaySeat model.now self.now }
         requires observation { observation < count_of (sizes_of model.now.sights) }
-        ensures { IfOk result (IsLook model.now self.now observation) }
+        ensures { IfOk result (AreWeightsAfter model.now self.now observation) }
     {
         // what is known of each model
         let _ = model.parts();

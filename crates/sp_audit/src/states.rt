@@ -45,7 +45,7 @@ pub(crate) struct RunState {
 
 impl RunState {
     ghost use Rattle.std.specs.Prelude.{[], ◌++◌, ◌∷◌};
-    ghost use Rattle.sp_audit.specs.States.{contents, recorded, with_member, published, grown_edition, ended, settle_of, IsStateAfter, IsState, IsEntrant, Follows};
+    ghost use Rattle.sp_audit.specs.States.{contents, contents_with_record, with_member, contents_with_edition, grown_edition, contents_at_end, settle_of, IsStateAfter, IsReplayState, IsEntrant, Follows};
 
     /// No event.
     pub(crate) fn opened(alloc: Global, task: Arc<Task>) -> Result<RunState, NoMemory>
@@ -81,7 +81,7 @@ impl RunState {
 
     /// What enters the grown list with a candidate.
     fn entrant(&self, candidate: Candidate) -> Result<Option<Member>, NoMemory>
-        requires replays { IsState (contents self.now) }
+        requires replays { IsReplayState (contents self.now) }
         requires base { slice_get (contents self.now).editions candidate.base.number ≡ Some candidate.base }
         ensures known { OnOk result (IsCandidate candidate) }
         ensures entrant { IfOk result (IsEntrant (contents self.now) candidate) }
@@ -149,7 +149,7 @@ impl RunState {
 
     /// A settle of this candidate.
     pub(crate) fn settle(&mut self, candidate: Candidate) -> Result<(), NoMemory>
-        requires replays { IsState (contents self.old) }
+        requires replays { IsReplayState (contents self.old) }
         requires going { self.old.done ≡ false }
         requires base { slice_get (contents self.old).editions candidate.base.number ≡ Some candidate.base }
         requires few { self.old.records + 1 < 2 ^ 64 }
@@ -166,7 +166,7 @@ impl RunState {
 
     /// A publication: the grown list becomes the next edition.
     pub(crate) fn publish(&mut self) -> Result<(), NoMemory>
-        requires replays { IsState (contents self.old) }
+        requires replays { IsReplayState (contents self.old) }
         requires going { self.old.done ≡ false }
         requires up { (k : ℕ) → k < length self.old.improved.items → get_or self.old.improved.items k false ≡ true }
         ensures { OnOk result (Follows (contents self.old) publish (contents self.new)) }
@@ -189,7 +189,7 @@ impl RunState {
 
     /// The end.
     pub(crate) fn end(&mut self)
-        requires replays { IsState (contents self.old) }
+        requires replays { IsReplayState (contents self.old) }
         requires going { self.old.done ≡ false }
         requires none { self.old.stages_left ≡ 0 }
         ensures { Follows (contents self.old) end (contents self.new) }

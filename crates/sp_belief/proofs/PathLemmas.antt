@@ -23,7 +23,7 @@ use Rattle.sp_model.specs.Links.{weights_of}
 use Rattle.sp_model.specs.Weights.{AreWeights}
 use Rattle.sp_model.proofs.RowLaw.{problem_lawful}
 use Rattle.sp_belief.specs.declared.walking.Step.{Step}
-use Rattle.sp_belief.specs.Transfers.{HasWeights, IsOfNext, AreSmall}
+use Rattle.sp_belief.specs.Transfers.{HasWeights, IsOfNext, AreWeightValues}
 use Rattle.sp_belief.specs.Updates.{unscaled_after, total_after}
 use Rattle.sp_belief.specs.Progress.{IsCarried, IsThinned}
 use Rattle.sp_belief.specs.Paths.{no_step, func_after, IsPath, LeadsTo, HasNoWeight, IsZero, IsUnscaled}
@@ -102,7 +102,7 @@ module _ (p : Parts) (known : IsModel p) (w : Func) (a : ℕ) (act : a < length 
   after_next zero h = carried.next
   after_next (suc k) h = (is.each k (omega arith)).next
 
-  pub after_small : (k : ℕ) → k ≤ length path → AreSmall (func_after f path k)
+  pub after_small : (k : ℕ) → k ≤ length path → AreWeightValues (func_after f path k)
   after_small zero h = carried.small
   after_small (suc k) h = (is.each k (omega arith)).small
 

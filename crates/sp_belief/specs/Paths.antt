@@ -7,7 +7,7 @@ use Rattle.sp_theory.specs.Model.{State}
 use Rattle.sp_model.specs.declared.parts.Parts.{Parts}
 use Rattle.sp_model.specs.Problem.{no_func, sizes_of, shape_of}
 use Rattle.sp_belief.specs.declared.walking.Step.{Step}
-use Rattle.sp_belief.specs.Transfers.{HasWeights, AreSmall}
+use Rattle.sp_belief.specs.Transfers.{HasWeights, AreWeightValues}
 use Rattle.sp_belief.specs.Updates.{unscaled_after}
 use Rattle.sp_belief.specs.Progress.{IsThinned}
 
@@ -42,7 +42,7 @@ HasNoWeight p w a o = (s : State) → IsPoint (sizes_of p.variables) s → unsca
 -- the next weights after a joint observation, before they are scaled
 pub record IsUnscaled (p : Parts) (w : Func) (a o : ℕ) (r : Func) : Type 0 where
   pub has : HasWeights p r (unscaled_after p w a o)
-  pub small : AreSmall r
+  pub small : AreWeightValues r
   pub few : state_total r ≤ℤ pos (2 ^ 62)
 
 -- those of the first n joint observations

@@ -1,7 +1,7 @@
 -- The tables of an action, made ready for all weights.
 use Rattle.std.specs.Prelude.{◌≡◌, ◌==◌, ◌+◌, ◌*◌, ◌<◌, ℕ, List, [], length, get_or, slice_index, slice_index_or}
 use Rattle.sp_dd.specs.Func.{Func}
-use Rattle.sp_dd.specs.Operations.{restricted}
+use Rattle.sp_dd.specs.Operations.{restriction}
 use Rattle.sp_ddops.specs.Diagonals.{IsIdentity}
 use Rattle.sp_model.specs.declared.parts.Parts.{Parts}
 use Rattle.sp_model.specs.Problem.{no_func, sizes_of, sight_of, move_of, problem}
@@ -29,7 +29,7 @@ pub record IsKeptTable (p : Parts) (a k : ℕ) : Type 0 where
 -- the table of observation variable j at its first n values
 pub record AreChances (p : Parts) (a j n : ℕ) (fs : List Func) : Type 0 where
   pub count : length fs ≡ n
-  pub each : (v : ℕ) → v < n → slice_index_or fs v no_func ≡ restricted (sight_of p a j) (2 * length p.variables + j) v
+  pub each : (v : ℕ) → v < n → slice_index_or fs v no_func ≡ restriction (sight_of p a j) (2 * length p.variables + j) v
 
 -- the tables of the first n observation variables at all their values
 pub record AreChanceLists (p : Parts) (a n : ℕ) (lists : List (List Func)) : Type 0 where

@@ -6,7 +6,7 @@ ghost use Rattle.sp_dd.specs.Func.{Everywhere};
 ghost use Rattle.sp_theory.specs.Points.{count_of, point_of};
 ghost use Rattle.sp_model.specs.Problem.{sizes_of};
 ghost use Rattle.sp_belief.specs.Updates.{total_after};
-ghost use Rattle.sp_belief.specs.Transfers.{AreSmall, IsOfNext};
+ghost use Rattle.sp_belief.specs.Transfers.{AreWeightValues, IsOfNext};
 ghost use Rattle.sp_belief.specs.Progress.{IsThinned};
 ghost use Rattle.sp_belief.specs.Tables.{AreActionTables};
 ghost use Rattle.sp_belief.specs.Paths.{IsPath, LeadsTo, HasNoWeight, IsUnscaled, IsZero, func_after, no_step};
@@ -178,7 +178,7 @@ fn push_step(path: &mut Vec<Step>, step: Step) -> Result<(), NoMemory>
 
 /// Whether weights are zero at each state.
 fn is_zero(f: &Func) -> bool
-    requires { AreSmall f.now }
+    requires { AreWeightValues f.now }
     ensures { OnTrue result (Everywhere f.now (λ v. v ≡ pos 0)) }
 {
     greatest(f) == 0
@@ -197,7 +197,7 @@ fn thin_by(
     requires variable { variable < length model.now.sights }
     requires value { value < get_or (sizes_of model.now.sights) variable 0 }
     requires next { IsOfNext model.now f.now }
-    requires small { AreSmall f.now }
+    requires small { AreWeightValues f.now }
     ensures { IfOk result (λ r. IsThinned model.now tables.now.action variable value f.now r) }
 {
     let _ = model.parts();

@@ -2,7 +2,7 @@
 use Rattle.std.proofs.Common.{◌≡◌, ℕ, zero, suc, ◌+◌, ◌-◌, ◌<◌, ◌≤◌, cond, List, [], ◌∷◌, ◌++◌, length, drop, get_or, refl, sym, ap, ◌∙◌, append-nil, add-one, drop-cons, drop_of_length-le, length-drop, arith}
 use Rattle.std.specs.Prelude.{nat_lt}
 use Rattle.std.proofs.lemmas.Bool.Decides.{nat_tests}
-use Rattle.sp_spelled.specs.Signs.{word, Gap, tight, space, Spelled, printed}
+use Rattle.sp_spelled.specs.Signs.{word, Gap, tight, space, Spelled, text_of_signs}
 use Rattle.std.proofs.lemmas.List.{length-map}
 use Rattle.std.specs.Prelude.{map}
 use Rattle.sp_spelled.specs.Shapes.{sign, group, closed_words, declaration_signs}
@@ -19,18 +19,18 @@ use Rattle.sp_dd.specs.Ordered.{node_at, no_node}
 use Rattle.sp_canonical.proofs.Pieces.{two}
 
 pub record IsOnTheWay (start text : List ℕ) (all rest : List Spelled) : Type 0 where
-  pub so_far : text ++ printed rest ≡ start ++ printed all
+  pub so_far : text ++ text_of_signs rest ≡ start ++ text_of_signs all
 
 pub begun : (text : List ℕ) (all : List Spelled) → IsOnTheWay text text all all
 begun text all = record { so_far = refl }
 
-pub went_on : (start text new : List ℕ) (all rest us later : List Spelled) → IsOnTheWay start text all rest → new ≡ text ++ printed us → rest ≡ us ++ later → IsOnTheWay start new all later
+pub went_on : (start text new : List ℕ) (all rest us later : List Spelled) → IsOnTheWay start text all rest → new ≡ text ++ text_of_signs us → rest ≡ us ++ later → IsOnTheWay start new all later
 went_on start text new all rest us later h e r = record {
-  so_far = ap (λ t. t ++ printed later) e ∙ two text us later ∙ ap (λ ss. text ++ printed ss) (sym r) ∙ h.so_far;
+  so_far = ap (λ t. t ++ text_of_signs later) e ∙ two text us later ∙ ap (λ ss. text ++ text_of_signs ss) (sym r) ∙ h.so_far;
 }
 
-pub ended : (start text : List ℕ) (all rest : List Spelled) → IsOnTheWay start text all rest → rest ≡ [] → text ≡ start ++ printed all
-ended start text all rest h r = sym (append-nil text) ∙ ap (λ ss. text ++ printed ss) (sym r) ∙ h.so_far
+pub ended : (start text : List ℕ) (all rest : List Spelled) → IsOnTheWay start text all rest → rest ≡ [] → text ≡ start ++ text_of_signs all
+ended start text all rest h r = sym (append-nil text) ∙ ap (λ ss. text ++ text_of_signs ss) (sym r) ∙ h.so_far
 
 -- the item at a place, and those behind it
 pub split_at : {X : Type 0} (xs : List X) (i : ℕ) (x : X) → i < length xs → x ≡ get_or xs i x → drop i xs ≡ x ∷ drop (i + 1) xs

@@ -8,7 +8,7 @@ use Rattle.std.proofs.lemmas.Bool.Decides.{nat_tests}
 use Rattle.sp_dd.specs.Func.{size_of}
 use Rattle.sp_model.specs.declared.parts.Decl.{Decl}
 use Rattle.sp_model.specs.declared.parts.Parts.{Parts}
-use Rattle.sp_model.specs.Problem.{no_decl, sizes_of, shape_of, doubled}
+use Rattle.sp_model.specs.Problem.{no_decl, sizes_of, shape_of, twice_each}
 use Rattle.sp_model.proofs.SlotPoints.{length-doubled, size-unprimed, size-primed, size-seen}
 use Rattle.sp_canonical.specs.ModelSigns.{slot_decl}
 
@@ -40,17 +40,17 @@ size_of_slot p slot h = by (nat_lt (slot / 2) (length p.variables)) refl
     half : (k : ℕ) → (k ≡ 2 * (k / 2)) ⊎ (k ≡ 2 * (k / 2) + 1)
     half k = grind (arith, nat_tests)
 
-    at_variable : slot / 2 < length p.variables → get_or (doubled (sizes_of p.variables) ++ sizes_of p.sights) slot 0 ≡ get_or (sizes_of p.variables) (slot / 2) 0
+    at_variable : slot / 2 < length p.variables → get_or (twice_each (sizes_of p.variables) ++ sizes_of p.sights) slot 0 ≡ get_or (sizes_of p.variables) (slot / 2) 0
     at_variable l =
         let m : slot / 2 < length (sizes_of p.variables) = omega (arith, count) in
-        ⊎_elim (λ (e : slot ≡ 2 * (slot / 2)). ap (λ k. get_or (doubled (sizes_of p.variables) ++ sizes_of p.sights) k 0) e ∙ size-unprimed (sizes_of p.variables) (sizes_of p.sights) (slot / 2) m)
-        (λ (e : slot ≡ 2 * (slot / 2) + 1). ap (λ k. get_or (doubled (sizes_of p.variables) ++ sizes_of p.sights) k 0) e ∙ size-primed (sizes_of p.variables) (sizes_of p.sights) (slot / 2) m)
+        ⊎_elim (λ (e : slot ≡ 2 * (slot / 2)). ap (λ k. get_or (twice_each (sizes_of p.variables) ++ sizes_of p.sights) k 0) e ∙ size-unprimed (sizes_of p.variables) (sizes_of p.sights) (slot / 2) m)
+        (λ (e : slot ≡ 2 * (slot / 2) + 1). ap (λ k. get_or (twice_each (sizes_of p.variables) ++ sizes_of p.sights) k 0) e ∙ size-primed (sizes_of p.variables) (sizes_of p.sights) (slot / 2) m)
         (half slot)
 
-    at_sight : length p.variables ≤ slot / 2 → get_or (doubled (sizes_of p.variables) ++ sizes_of p.sights) slot 0 ≡ get_or (sizes_of p.sights) (slot - 2 * length p.variables) 0
+    at_sight : length p.variables ≤ slot / 2 → get_or (twice_each (sizes_of p.variables) ++ sizes_of p.sights) slot 0 ≡ get_or (sizes_of p.sights) (slot - 2 * length p.variables) 0
     at_sight l =
         let e : slot ≡ 2 * length (sizes_of p.variables) + (slot - 2 * length p.variables) = omega (arith, count) in
-        ap (λ k. get_or (doubled (sizes_of p.variables) ++ sizes_of p.sights) k 0) e ∙ size-seen (sizes_of p.variables) (sizes_of p.sights) (slot - 2 * length p.variables)
+        ap (λ k. get_or (twice_each (sizes_of p.variables) ++ sizes_of p.sights) k 0) e ∙ size-seen (sizes_of p.variables) (sizes_of p.sights) (slot - 2 * length p.variables)
 
     by : (b : Bool) → nat_lt (slot / 2) (length p.variables) ≡ b → size_of (shape_of p) slot ≡ length (slot_decl p slot).values
     by true e = let l : slot / 2 < length p.variables = grind (arith, nat_tests) in at_variable l ∙ sizes_at p.variables (slot / 2) ∙ ap (λ b. length (cond b (get_or p.variables (slot / 2) no_decl) (get_or p.sights (slot - 2 * length p.variables) no_decl)).values) (sym e)

@@ -20,7 +20,7 @@ use Rattle.sp_canonical.specs.Tables.{NamedTable, named_tables, is_identity, mov
 use Rattle.sp_canonical.specs.ModelSigns.{moving_of, seen_of, function_lines, functions_lines, tables_of, line_behind, heading_signs, named_lines, observed_signs, cost_signs, tables_signs, line_count}
 use Rattle.sp_canonical.specs.Lent.{lent_table}
 use Rattle.sp_canonical.specs.declared.tables.NamedTable as code
-use Rattle.sp_spelled.specs.Signs.{Spelled, printed}
+use Rattle.sp_spelled.specs.Signs.{Spelled, text_of_signs}
 use Rattle.sp_canonical.proofs.Pieces.{follows}
 use Rattle.sp_canonical.proofs.Loops.{split_at, get_or_any}
 use Rattle.sp_canonical.proofs.SlotLemmas.{slots_are}
@@ -114,9 +114,9 @@ module _ (p : Parts) (name : List ℕ) (base : ℕ) (moving seen : List NamedTab
       ++ (heading_signs name ++ (named_lines base moving ++ (observed_signs k seen ++ cost_signs n cost)))))
 
   pub tables_told : (from_seen from_cost : ℕ) (t0 t1 t2 t3 t4 t5 t6 t7 : List ℕ) → from_seen ≡ line_behind base moving → from_cost ≡ line_behind from_seen seen
-      → t1 ≡ t0 ++ printed (functions_lines p base (tables_of moving)) → t2 ≡ t1 ++ printed (functions_lines p from_seen (tables_of seen)) → t3 ≡ t2 ++ printed (function_lines p from_cost cost)
-      → t4 ≡ t3 ++ printed (heading_signs name) → t5 ≡ t4 ++ printed (named_lines base moving) → t6 ≡ t5 ++ printed (observed_signs from_seen seen) → t7 ≡ t6 ++ printed (cost_signs from_cost cost)
-      → t7 ≡ t0 ++ printed (tables_signs p name base moving seen cost)
+      → t1 ≡ t0 ++ text_of_signs (functions_lines p base (tables_of moving)) → t2 ≡ t1 ++ text_of_signs (functions_lines p from_seen (tables_of seen)) → t3 ≡ t2 ++ text_of_signs (function_lines p from_cost cost)
+      → t4 ≡ t3 ++ text_of_signs (heading_signs name) → t5 ≡ t4 ++ text_of_signs (named_lines base moving) → t6 ≡ t5 ++ text_of_signs (observed_signs from_seen seen) → t7 ≡ t6 ++ text_of_signs (cost_signs from_cost cost)
+      → t7 ≡ t0 ++ text_of_signs (tables_signs p name base moving seen cost)
   tables_told k n t0 t1 t2 t3 t4 t5 t6 t7 ek en e1 e2 e3 e4 e5 e6 e7 =
       follows t0 t1 t7 (functions_lines p base (tables_of moving)) (functions_lines p k (tables_of seen) ++ (function_lines p n cost ++ (heading_signs name ++ (named_lines base moving ++ (observed_signs k seen ++ cost_signs n cost))))) e1
       (follows t1 t2 t7 (functions_lines p k (tables_of seen)) (function_lines p n cost ++ (heading_signs name ++ (named_lines base moving ++ (observed_signs k seen ++ cost_signs n cost)))) e2
@@ -124,7 +124,7 @@ module _ (p : Parts) (name : List ℕ) (base : ℕ) (moving seen : List NamedTab
       (follows t3 t4 t7 (heading_signs name) (named_lines base moving ++ (observed_signs k seen ++ cost_signs n cost)) e4
       (follows t4 t5 t7 (named_lines base moving) (observed_signs k seen ++ cost_signs n cost) e5
       (follows t5 t6 t7 (observed_signs k seen) (cost_signs n cost) e6 e7)))))
-      ∙ ap (λ j. t0 ++ printed (pieces j n)) ek ∙ ap (λ j. t0 ++ printed (pieces (line_behind base moving) j)) (en ∙ ap (λ j. line_behind j seen) ek)
+      ∙ ap (λ j. t0 ++ text_of_signs (pieces j n)) ek ∙ ap (λ j. t0 ++ text_of_signs (pieces (line_behind base moving) j)) (en ∙ ap (λ j. line_behind j seen) ek)
 
 -- ---- tables that are lent
 module _ (ts : List code.NamedTable) (i : ℕ) (t : code.NamedTable) (l : i < length ts) where

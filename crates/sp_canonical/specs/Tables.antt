@@ -6,7 +6,7 @@ use Rattle.std.specs.Cmp.Lexicographic.{pointwise}
 use Rattle.sp_dd.specs.Func.{Shape, Func}
 use Rattle.sp_dd.specs.NodeLists.{Node}
 use Rattle.sp_dd.specs.Diagrams.{node_list}
-use Rattle.sp_dd.specs.Operations.{scaled}
+use Rattle.sp_dd.specs.Operations.{scalar_multiple}
 use Rattle.sp_rows.specs.Tables.{identity}
 use Rattle.sp_model.specs.declared.parts.Decl.{Decl}
 use Rattle.sp_model.specs.declared.parts.Factor.{Factor}
@@ -34,7 +34,7 @@ moving_tables s i (d ∷ ds) (f ∷ fs) = cond (is_identity s i f) (moving_table
 
 -- the negative of a function
 abbrev pub negative : Func → Func
-negative f = scaled f (negsuc 0)
+negative f = scalar_multiple f (negsuc 0)
 
 -- the function depends on that slot
 abbrev pub is_on : List Node → ℕ → Bool

@@ -2,7 +2,7 @@
 
 ghost use Rattle.std.specs.Prelude.{◌≡◌, ◌+◌, ◌++◌, length, map, All, OnOk, IfOk};
 ghost use Rattle.std.specs.List.{range_with_len};
-ghost use Rattle.sp_spelled.specs.Signs.{printed};
+ghost use Rattle.sp_spelled.specs.Signs.{text_of_signs};
 ghost use Rattle.sp_rows.specs.Tables.{identity};
 ghost use Rattle.sp_model.specs.Problem.{shape_of};
 ghost use Rattle.sp_model.specs.Kept.{IsAction, IsModel};
@@ -27,7 +27,7 @@ pub fn put_actions(
     base: usize,
 ) -> Result<(), NoMemory>
     requires { IsModel parts.now }
-    ensures { OnOk result (page.new ≡ page.old ++ printed (actions_signs parts.now base parts.now.actions)) }
+    ensures { OnOk result (page.new ≡ page.old ++ text_of_signs (actions_signs parts.now base parts.now.actions)) }
 {
     let kept = identities(alloc, &parts.scope)?;
     put_each(alloc, page, parts, base, kept.as_slice())
@@ -43,7 +43,7 @@ fn put_each(
 ) -> Result<(), NoMemory>
     requires actions { All (IsAction (shape_of parts.now)) parts.now.actions }
     requires kept { kept.now ≡ map (identity (shape_of parts.now)) (range_with_len 0 (length parts.now.variables)) }
-    ensures { OnOk result (page.new ≡ page.old ++ printed (actions_signs parts.now base parts.now.actions)) }
+    ensures { OnOk result (page.new ≡ page.old ++ text_of_signs (actions_signs parts.now base parts.now.actions)) }
 {
     let actions = parts.actions.as_slice();
     let mut base = base;
@@ -64,7 +64,7 @@ fn put_action(
 ) -> Result<usize, NoMemory>
     requires action { IsAction (shape_of parts.now) action.now }
     requires kept { kept.now ≡ map (identity (shape_of parts.now)) (range_with_len 0 (length parts.now.variables)) }
-    ensures text { OnOk result (page.new ≡ page.old ++ printed (action_signs parts.now base action.now)) }
+    ensures text { OnOk result (page.new ≡ page.old ++ text_of_signs (action_signs parts.now base action.now)) }
     ensures next { IfOk result (λ next. next ≡ next_base parts.now base action.now) }
 {
     let cost = times(alloc, &action.reward, -1)?;
@@ -95,7 +95,7 @@ fn put_tables(
     requires moving { All (λ t. t.table.shape ≡ shape_of parts.now) (map lent_table moving.now) }
     requires seen { All (λ t. t.table.shape ≡ shape_of parts.now) (map lent_table seen.now) }
     requires cost { cost.now.shape ≡ shape_of parts.now }
-    ensures text { OnOk result (page.new ≡ page.old ++ printed (tables_signs parts.now name.now base (map lent_table moving.now) (map lent_table seen.now) cost.now)) }
+    ensures text { OnOk result (page.new ≡ page.old ++ text_of_signs (tables_signs parts.now name.now base (map lent_table moving.now) (map lent_table seen.now) cost.now)) }
     ensures next { IfOk result (λ next. next ≡ signs.line_behind (signs.line_behind base (map lent_table moving.now)) (map lent_table seen.now) + line_count cost.now) }
 {
     let from_seen = put_table_lines(page, parts, base, moving)?;
@@ -112,7 +112,7 @@ fn put_tables(
 /// The line with an action's name.
 #[tactic(auto, using(crate::proofs::Pieces::printed_heading))]
 fn put_heading(page: &mut Page, name: &Name) -> Result<(), NoMemory>
-    ensures { OnOk result (page.new ≡ page.old ++ printed (signs.heading_signs name.now)) }
+    ensures { OnOk result (page.new ≡ page.old ++ text_of_signs (signs.heading_signs name.now)) }
 {
     page.put(b"action ")?;
     put_word(page, name.bytes(), Gap::Line)
@@ -121,7 +121,7 @@ fn put_heading(page: &mut Page, name: &Name) -> Result<(), NoMemory>
 /// The lines of an action's observation variables.
 #[tactic(auto, using(crate::proofs::Pieces::printed_observed))]
 fn put_observed(page: &mut Page, base: usize, seen: &[NamedTable<'_>]) -> Result<(), NoMemory>
-    ensures { OnOk result (page.new ≡ page.old ++ printed (signs.observed_signs base (map lent_table seen.now))) }
+    ensures { OnOk result (page.new ≡ page.old ++ text_of_signs (signs.observed_signs base (map lent_table seen.now))) }
 {
     page.put(b"observe\n")?;
     put_named(page, base, seen)?;
@@ -131,7 +131,7 @@ fn put_observed(page: &mut Page, base: usize, seen: &[NamedTable<'_>]) -> Result
 /// The line of an action's cost, and the line at its end.
 #[tactic(auto, using(crate::proofs::Pieces::printed_cost))]
 fn put_cost(page: &mut Page, base: usize, cost: &Func) -> Result<(), NoMemory>
-    ensures { OnOk result (page.new ≡ page.old ++ printed (signs.cost_signs base cost.now)) }
+    ensures { OnOk result (page.new ≡ page.old ++ text_of_signs (signs.cost_signs base cost.now)) }
 {
     page.put(b"cost ")?;
     put_function(page, base, cost, Gap::Line)?;
@@ -146,7 +146,7 @@ fn put_table_lines(
     tables: &[NamedTable<'_>],
 ) -> Result<usize, NoMemory>
     requires { All (λ t. t.table.shape ≡ shape_of parts.now) (map lent_table tables.now) }
-    ensures text { OnOk result (page.new ≡ page.old ++ printed (functions_lines parts.now base (tables_of (map lent_table tables.now)))) }
+    ensures text { OnOk result (page.new ≡ page.old ++ text_of_signs (functions_lines parts.now base (tables_of (map lent_table tables.now)))) }
     ensures next { IfOk result (λ next. next ≡ signs.line_behind base (map lent_table tables.now)) }
 {
     let mut base = base;
@@ -160,7 +160,7 @@ fn put_table_lines(
 
 /// A line for each table.
 fn put_named(page: &mut Page, base: usize, tables: &[NamedTable<'_>]) -> Result<(), NoMemory>
-    ensures { OnOk result (page.new ≡ page.old ++ printed (named_lines base (map lent_table tables.now))) }
+    ensures { OnOk result (page.new ≡ page.old ++ text_of_signs (named_lines base (map lent_table tables.now))) }
 {
     let mut base = base;
     for i in 0..tables.len() {
@@ -174,7 +174,7 @@ fn put_named(page: &mut Page, base: usize, tables: &[NamedTable<'_>]) -> Result<
 /// The line of a function under a name.
 #[tactic(auto, using(crate::proofs::Pieces::printed_named))]
 fn put_named_line(page: &mut Page, base: usize, name: &Name, table: &Func) -> Result<(), NoMemory>
-    ensures { OnOk result (page.new ≡ page.old ++ printed (signs.named_line base name.now table.now)) }
+    ensures { OnOk result (page.new ≡ page.old ++ text_of_signs (signs.named_line base name.now table.now)) }
 {
     put_word(page, name.bytes(), Gap::Space)?;
     put_function(page, base, table, Gap::Line)

@@ -1,7 +1,7 @@
 //! The lines of the initial belief.
 
 ghost use Rattle.std.specs.Prelude.{◌≡◌, ◌<◌, ◌≤◌, ◌++◌, length, map, pos, All, OnOk, IfOk};
-ghost use Rattle.sp_spelled.specs.Signs.{printed, tight};
+ghost use Rattle.sp_spelled.specs.Signs.{text_of_signs, tight};
 ghost use Rattle.sp_spelled.specs.Shapes.{leaf};
 ghost use Rattle.sp_show.specs.Decimals.{decimal_of};
 ghost use Rattle.sp_model.specs.Problem.{shape_of};
@@ -21,7 +21,7 @@ use std::alloc::Global;
 #[tactic(auto, using(crate::proofs::Pieces::printed_init))]
 pub fn put_init(alloc: Global, page: &mut Page, parts: &Parts) -> Result<usize, NoMemory>
     requires { IsModel parts.now }
-    ensures text { OnOk result (page.new ≡ page.old ++ printed (init_signs parts.now parts.now.init)) }
+    ensures text { OnOk result (page.new ≡ page.old ++ text_of_signs (init_signs parts.now parts.now.init)) }
     ensures count { IfOk result (λ n. n ≡ lines_total (factor_tables parts.now.init)) }
 {
     let factors = parts.init.as_slice();
@@ -35,7 +35,7 @@ pub fn put_init(alloc: Global, page: &mut Page, parts: &Parts) -> Result<usize, 
 /// The lines of the factors' functions. Answers how many there are.
 fn put_factor_lines(page: &mut Page, parts: &Parts, factors: &[Factor]) -> Result<usize, NoMemory>
     requires { All (IsFactor (shape_of parts.now)) factors.now }
-    ensures text { OnOk result (page.new ≡ page.old ++ printed (functions_lines parts.now 0 (factor_tables factors.now))) }
+    ensures text { OnOk result (page.new ≡ page.old ++ text_of_signs (functions_lines parts.now 0 (factor_tables factors.now))) }
     ensures count { IfOk result (λ n. n ≡ lines_total (factor_tables factors.now)) }
 {
     let mut base = 0;
@@ -56,7 +56,7 @@ fn put_factors(
 ) -> Result<(), NoMemory>
     requires factors { All (IsFactor (shape_of parts.now)) factors.now }
     requires few { length parts.now.variables ≤ 24 }
-    ensures { OnOk result (page.new ≡ page.old ++ printed (factors_signs parts.now 0 factors.now)) }
+    ensures { OnOk result (page.new ≡ page.old ++ text_of_signs (factors_signs parts.now 0 factors.now)) }
 {
     let mut base = 0;
     for i in 0..factors.len() {
@@ -85,7 +85,7 @@ fn put_factor(
 ) -> Result<(), NoMemory>
     requires within { All (λ i. i < length parts.now.variables) factor.now.own }
     requires few { length parts.now.variables ≤ 24 }
-    ensures { OnOk result (page.new ≡ page.old ++ printed (summed_signs parts.now base (gap_of gap) factor.now.func (free_variables factor.now))) }
+    ensures { OnOk result (page.new ≡ page.old ++ text_of_signs (summed_signs parts.now base (gap_of gap) factor.now.func (free_variables factor.now))) }
 {
     let free = free_variables(alloc, factor)?;
     put_summed(page, parts, base, &factor.func, free.as_slice(), gap)
@@ -102,7 +102,7 @@ fn put_summed(
     gap: Gap,
 ) -> Result<(), NoMemory>
     requires { All (λ i. i < length parts.now.variables) free.now }
-    ensures { OnOk result (page.new ≡ page.old ++ printed (summed_signs parts.now base (gap_of gap) func.now free.now)) }
+    ensures { OnOk result (page.new ≡ page.old ++ text_of_signs (summed_signs parts.now base (gap_of gap) func.now free.now)) }
 {
     if free.is_empty() {
         return put_function(page, base, func, gap);
@@ -145,7 +145,7 @@ fn is_on(nodes: &Nodes, slot: u64) -> bool
 /// A zero node for each of these variables.
 fn put_zeros(page: &mut Page, parts: &Parts, variables: &[u64]) -> Result<(), NoMemory>
     requires { All (λ i. i < length parts.now.variables) variables.now }
-    ensures { OnOk result (page.new ≡ page.old ++ printed (zeros_signs parts.now variables.now)) }
+    ensures { OnOk result (page.new ≡ page.old ++ text_of_signs (zeros_signs parts.now variables.now)) }
 {
     for i in 0..variables.len() {
         let decl = parts.variables.at(variables[i]);
@@ -157,7 +157,7 @@ fn put_zeros(page: &mut Page, parts: &Parts, variables: &[u64]) -> Result<(), No
 /// A node that has zero for each value of a variable.
 #[tactic(auto, using(crate::proofs::Pieces::printed_group))]
 fn put_zero(page: &mut Page, decl: &Decl, gap: Gap) -> Result<(), NoMemory>
-    ensures { OnOk result (page.new ≡ page.old ++ printed (zero_node (gap_of gap) decl.now)) }
+    ensures { OnOk result (page.new ≡ page.old ++ text_of_signs (zero_node (gap_of gap) decl.now)) }
 {
     page.put(b"(")?;
     put_word(page, decl.name.bytes(), Gap::Space)?;
@@ -167,7 +167,7 @@ fn put_zero(page: &mut Page, decl: &Decl, gap: Gap) -> Result<(), NoMemory>
 
 /// Zero for each of these values.
 fn put_zero_branches(page: &mut Page, names: &[Name]) -> Result<(), NoMemory>
-    ensures { OnOk result (page.new ≡ page.old ++ printed (branch_signs names.now (map (λ x. leaf (decimal_of (pos 0)) tight) names.now))) }
+    ensures { OnOk result (page.new ≡ page.old ++ text_of_signs (branch_signs names.now (map (λ x. leaf (decimal_of (pos 0)) tight) names.now))) }
 {
     for i in 0..names.len() {
         put_branch(

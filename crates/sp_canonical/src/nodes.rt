@@ -1,7 +1,7 @@
 //! The lines of functions.
 
 ghost use Rattle.std.specs.Prelude.{◌≡◌, ◌<◌, ◌+◌, ◌++◌, [], ◌∷◌, length, map, OnOk, IfOk};
-ghost use Rattle.sp_spelled.specs.Signs.{printed, tight};
+ghost use Rattle.sp_spelled.specs.Signs.{text_of_signs, tight};
 ghost use Rattle.sp_spelled.specs.Shapes.{group};
 ghost use Rattle.sp_dd.specs.Func.{size_of};
 ghost use Rattle.sp_dd.specs.Ordered.{node_at};
@@ -41,7 +41,7 @@ fn has_prime(parts: &Parts, slot: u64) -> bool
 
 /// A constant, or the name of the line of a node.
 fn put_part(page: &mut Page, base: usize, part: Part, gap: Gap) -> Result<(), NoMemory>
-    ensures { OnOk result (page.new ≡ page.old ++ printed (part_signs base (gap_of gap) part)) }
+    ensures { OnOk result (page.new ≡ page.old ++ text_of_signs (part_signs base (gap_of gap) part)) }
 {
     match part {
         Part::Leaf(ticks) => put_value(page, ticks, gap),
@@ -63,7 +63,7 @@ pub fn put_branch(
     part: Part,
     gap: Gap,
 ) -> Result<(), NoMemory>
-    ensures { OnOk result (page.new ≡ page.old ++ printed (group name.now (part_signs base tight part) (gap_of gap))) }
+    ensures { OnOk result (page.new ≡ page.old ++ text_of_signs (group name.now (part_signs base tight part) (gap_of gap))) }
 {
     page.put(b"(")?;
     put_word(page, name.bytes(), Gap::Space)?;
@@ -81,7 +81,7 @@ fn put_branches(
 ) -> Result<(), NoMemory>
     requires node { at < length nodes.now }
     requires count { length (node_at nodes.now at).parts ≡ length names.now }
-    ensures { OnOk result (page.new ≡ page.old ++ printed (branch_signs names.now (map (part_signs base tight) (node_at nodes.now at).parts))) }
+    ensures { OnOk result (page.new ≡ page.old ++ text_of_signs (branch_signs names.now (map (part_signs base tight) (node_at nodes.now at).parts))) }
 {
     for i in 0..names.len() {
         let part = nodes.part(at, i as u64);
@@ -93,7 +93,7 @@ fn put_branches(
 /// The name of a slot's variable, with a prime or without one.
 #[tactic(auto, using(crate::proofs::Pieces::printed_word, crate::proofs::Pieces::printed_primed))]
 fn put_slot(page: &mut Page, name: &[u8], is_primed: bool) -> Result<(), NoMemory>
-    ensures { OnOk result (page.new ≡ page.old ++ printed (slot_word is_primed name.now ∷ [])) }
+    ensures { OnOk result (page.new ≡ page.old ++ text_of_signs (slot_word is_primed name.now ∷ [])) }
 {
     page.put(name)?;
     if is_primed {
@@ -115,7 +115,7 @@ fn put_node(
     requires node { at < length nodes.now }
     requires slot { (node_at nodes.now at).slot < length (shape_of parts.now).sizes }
     requires count { length (node_at nodes.now at).parts ≡ size_of (shape_of parts.now) (node_at nodes.now at).slot }
-    ensures { OnOk result (page.new ≡ page.old ++ printed (node_signs parts.now base (node_at nodes.now at))) }
+    ensures { OnOk result (page.new ≡ page.old ++ text_of_signs (node_signs parts.now base (node_at nodes.now at))) }
 {
     let slot = nodes.slot(at);
     let decl = decl_of(parts, slot);
@@ -137,7 +137,7 @@ fn put_line(
     requires node { at < length nodes.now }
     requires slot { (node_at nodes.now at).slot < length (shape_of parts.now).sizes }
     requires count { length (node_at nodes.now at).parts ≡ size_of (shape_of parts.now) (node_at nodes.now at).slot }
-    ensures { OnOk result (page.new ≡ page.old ++ printed (node_line parts.now base at (node_at nodes.now at))) }
+    ensures { OnOk result (page.new ≡ page.old ++ text_of_signs (node_line parts.now base at (node_at nodes.now at))) }
 {
     let Some(number) = base.checked_add(at) else {
         return Err(NoMemory);
@@ -152,7 +152,7 @@ fn put_line(
 /// The lines of a function, the first of which has that number.
 pub fn put_lines(page: &mut Page, parts: &Parts, base: usize, func: &Func) -> Result<(), NoMemory>
     requires { func.now.shape ≡ shape_of parts.now }
-    ensures { OnOk result (page.new ≡ page.old ++ printed (function_lines parts.now base func.now)) }
+    ensures { OnOk result (page.new ≡ page.old ++ text_of_signs (function_lines parts.now base func.now)) }
 {
     reduced_law(func);
     let nodes = func.nodes();
@@ -164,7 +164,7 @@ pub fn put_lines(page: &mut Page, parts: &Parts, base: usize, func: &Func) -> Re
 
 /// A function where it is used.
 pub fn put_function(page: &mut Page, base: usize, func: &Func, gap: Gap) -> Result<(), NoMemory>
-    ensures { OnOk result (page.new ≡ page.old ++ printed (function_signs base (gap_of gap) func.now)) }
+    ensures { OnOk result (page.new ≡ page.old ++ text_of_signs (function_signs base (gap_of gap) func.now)) }
 {
     put_part(page, base, func.root(), gap)
 }

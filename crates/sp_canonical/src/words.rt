@@ -1,7 +1,7 @@
 //! Words, and brackets round one.
 
 ghost use Rattle.std.specs.Prelude.{◌≡◌, ◌++◌, [], ◌∷◌, OnOk, cond};
-ghost use Rattle.sp_spelled.specs.Signs.{printed, word, closes, space, tight};
+ghost use Rattle.sp_spelled.specs.Signs.{text_of_signs, word, closes, space, tight};
 ghost use Rattle.sp_spelled.specs.Shapes.{sign, leaf};
 ghost use Rattle.sp_show.specs.Decimals.{decimal_of};
 ghost use Rattle.sp_canonical.specs.Gaps.{gap_of};
@@ -13,7 +13,7 @@ use sp_dd::NoMemory;
 /// A word.
 #[tactic(auto, using(crate::proofs::Pieces::printed_word))]
 pub fn put_word(page: &mut Page, text: &[u8], gap: Gap) -> Result<(), NoMemory>
-    ensures { OnOk result (page.new ≡ page.old ++ printed (sign (word text.now) (gap_of gap) ∷ [])) }
+    ensures { OnOk result (page.new ≡ page.old ++ text_of_signs (sign (word text.now) (gap_of gap) ∷ [])) }
 {
     page.put(text)?;
     page.put(gap.bytes())
@@ -22,7 +22,7 @@ pub fn put_word(page: &mut Page, text: &[u8], gap: Gap) -> Result<(), NoMemory>
 /// A closing bracket.
 #[tactic(auto, using(crate::proofs::Pieces::printed_closing))]
 pub fn put_closing(page: &mut Page, gap: Gap) -> Result<(), NoMemory>
-    ensures { OnOk result (page.new ≡ page.old ++ printed (sign closes (gap_of gap) ∷ [])) }
+    ensures { OnOk result (page.new ≡ page.old ++ text_of_signs (sign closes (gap_of gap) ∷ [])) }
 {
     page.put(b")")?;
     page.put(gap.bytes())
@@ -31,7 +31,7 @@ pub fn put_closing(page: &mut Page, gap: Gap) -> Result<(), NoMemory>
 /// The decimal of a number of ticks, in brackets.
 #[tactic(auto, using(crate::proofs::Pieces::printed_leaf))]
 pub fn put_value(page: &mut Page, ticks: i128, gap: Gap) -> Result<(), NoMemory>
-    ensures { OnOk result (page.new ≡ page.old ++ printed (leaf (decimal_of ticks) (gap_of gap))) }
+    ensures { OnOk result (page.new ≡ page.old ++ text_of_signs (leaf (decimal_of ticks) (gap_of gap))) }
 {
     page.put(b"(")?;
     page.put_ticks(ticks)?;
@@ -49,7 +49,7 @@ pub fn put_line_name(page: &mut Page, number: usize) -> Result<(), NoMemory>
 /// The name of a line, in brackets.
 #[tactic(auto, using(crate::proofs::Pieces::printed_leaf))]
 pub fn put_reference(page: &mut Page, number: usize, gap: Gap) -> Result<(), NoMemory>
-    ensures { OnOk result (page.new ≡ page.old ++ printed (leaf (dd_name number) (gap_of gap))) }
+    ensures { OnOk result (page.new ≡ page.old ++ text_of_signs (leaf (dd_name number) (gap_of gap))) }
 {
     page.put(b"(")?;
     put_line_name(page, number)?;

@@ -8,7 +8,7 @@ use Rattle.sp_names.specs.Names.{with_name}
 use Rattle.sp_trees.specs.declared.env.Env.{Env}
 use Rattle.sp_trees.specs.Words.{text}
 use Rattle.sp_declarations.specs.declared.error.ModelError.{ModelError}
-use Rattle.sp_declarations.specs.Steps.{Gives, Leaves}
+use Rattle.sp_declarations.specs.Steps.{GivesOrRunsOut, Leaves}
 use Rattle.sp_declarations.proofs.StepLemmas.{after, after_ok, exit_leaves, exit_gives}
 use Rattle.sp_checks.specs.declared.items.Listed.{Listed}
 use Rattle.sp_checks.specs.declared.state.Draft.{Draft}
@@ -16,7 +16,7 @@ use Rattle.sp_checks.specs.declared.state.State.{State}
 use Rattle.sp_checks.specs.Actions.{items, moves_of, sights_of, draft_of, draft, checked_name, action}
 
 module _ (env : Env) (source : List ℕ) (word : Span) (end : ℕ) (l : Listed) where
-  pub sights_err : (x : Result Draft ModelError) (e : ModelError) → IsErrAnd x (λ q. q ≡ e) → Gives (sights_of end l.sights) (Err e) → Gives (draft_of env source word end l) x
+  pub sights_err : (x : Result Draft ModelError) (e : ModelError) → IsErrAnd x (λ q. q ≡ e) → GivesOrRunsOut (sights_of end l.sights) (Err e) → GivesOrRunsOut (draft_of env source word end l) x
   unfolding draft_of
   sights_err x e k h = exit_gives _ _ e x h k
 
@@ -25,21 +25,21 @@ module _ (env : Env) (source : List ℕ) (word : Span) (end : ℕ) (l : Listed) 
   draft_of_ok name moves sights p n m = after_ok _ _ _ _ p (cc (n, m))
 
 module _ (env : Env) (source : List ℕ) (number : ℕ) (word : Span) (list : List Item) (end : Span) where
-  pub items_err : (x : Result Draft ModelError) (e : ModelError) → IsErrAnd x (λ q. q ≡ e) → Gives (items env source number list) (Err e) → Gives (draft env source number word list end) x
+  pub items_err : (x : Result Draft ModelError) (e : ModelError) → IsErrAnd x (λ q. q ≡ e) → GivesOrRunsOut (items env source number list) (Err e) → GivesOrRunsOut (draft env source number word list end) x
   unfolding draft
   items_err x e k h = exit_gives _ _ e x h k
 
-  pub draft_then : (l : Listed) (x : Result Draft ModelError) → items env source number list ≡ Ok l → Gives (draft_of env source word end.start l) x → Gives (draft env source number word list end) x
+  pub draft_then : (l : Listed) (x : Result Draft ModelError) → items env source number list ≡ Ok l → GivesOrRunsOut (draft_of env source word end.start l) x → GivesOrRunsOut (draft env source number word list end) x
   unfolding draft
   draft_then l x e h = after _ _ _ _ e h
 
 module _ (source : List ℕ) (s : State) (word : Span) (list : List Item) (end : Span) where
   module _ (x : Result (Unit {0}) ModelError) (new : State) (e : ModelError) (k : IsErrAnd x (λ q. q ≡ e)) where
-    pub name_err : Gives (checked_name source s.names (length s.actions) word) (Err e) → Leaves (action source s word list end) x new
+    pub name_err : GivesOrRunsOut (checked_name source s.names (length s.actions) word) (Err e) → Leaves (action source s word list end) x new
     unfolding action
     name_err h = exit_leaves _ _ e x new h k
 
-    pub draft_err : checked_name source s.names (length s.actions) word ≡ Ok tt → Gives (draft s.env source (length s.actions) word list end) (Err e) → Leaves (action source s word list end) x new
+    pub draft_err : checked_name source s.names (length s.actions) word ≡ Ok tt → GivesOrRunsOut (draft s.env source (length s.actions) word list end) (Err e) → Leaves (action source s word list end) x new
     unfolding action
     draft_err p h = after _ _ _ _ p (exit_leaves _ _ e x new h k)
 

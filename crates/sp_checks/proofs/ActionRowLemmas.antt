@@ -18,12 +18,12 @@ use Rattle.sp_trees.specs.declared.env.Env.{Env}
 use Rattle.sp_trees.specs.Refusals.{refused_if}
 use Rattle.sp_trees.specs.Words.{text}
 use Rattle.sp_trees.specs.Good.{IsEnv}
-use Rattle.sp_trees.specs.Rows.{IsLeastOf, Among, IsAt}
+use Rattle.sp_trees.specs.Rows.{IsFirstRefusal, Among, IsRefusalAt}
 use Rattle.sp_trees.specs.Told.{HasMade}
 use Rattle.sp_trees.proofs.LeastLemmas.{least_only, least_test}
 use Rattle.sp_syntax.specs.Spans.{AreRising, item_spans, section_spans, all_spans}
 use Rattle.sp_declarations.specs.Steps.{in_turn}
-use Rattle.sp_declarations.specs.Declarations.{refused}
+use Rattle.sp_declarations.specs.Declarations.{refusal_at}
 use Rattle.sp_declarations.specs.Rows.{PartRow, refusal_of}
 use Rattle.sp_declarations.proofs.StepLemmas.{stood, nothing_refused}
 use Rattle.sp_declarations.proofs.NameLemmas.{with_new}
@@ -91,13 +91,13 @@ swapped true x y = refl
 swapped false x y = refl
 
 name_least : (source : List ℕ) (names : List (List ℕ)) (count : ℕ) (before : List Section) (w : Span) → AreNames source names before → count ≡ action_count before
-    → IsLeastOf (λ r. (Among (IsActionNamed source w) before × IsAt w.start kind.RepeatedName r) ⊎ ((action_count before ≡ 256) × IsAt w.start (kind.TooMany 256) r)) (refusal_of (checked_name source names count w))
+    → IsFirstRefusal (λ r. (Among (IsActionNamed source w) before × IsRefusalAt w.start kind.RepeatedName r) ⊎ ((action_count before ≡ 256) × IsRefusalAt w.start (kind.TooMany 256) r)) (refusal_of (checked_name source names count w))
 name_least source names count before w h c =
     let b = list_any (bytes_eq (text source w)) names in
     let full = refused_if (count == 256) w.start (kind.TooMany 256) in
-    let R : Refusal → Type 0 = λ r. (Among (IsActionNamed source w) before × IsAt w.start kind.RepeatedName r) ⊎ ((action_count before ≡ 256) × IsAt w.start (kind.TooMany 256) r) in
-    subst (IsLeastOf R) (sym (refused_unless (name_refusal_by (not b) count w.start) ∙ swapped b full (refused w.start kind.RepeatedName)))
-    (least_else (Among (IsActionNamed source w) before) (λ r. (action_count before ≡ 256) × IsAt w.start (kind.TooMany 256) r) b w.start kind.RepeatedName full (h w).0 (h w).1
+    let R : Refusal → Type 0 = λ r. (Among (IsActionNamed source w) before × IsRefusalAt w.start kind.RepeatedName r) ⊎ ((action_count before ≡ 256) × IsRefusalAt w.start (kind.TooMany 256) r) in
+    subst (IsFirstRefusal R) (sym (refused_unless (name_refusal_by (not b) count w.start) ∙ swapped b full (refusal_at w.start kind.RepeatedName)))
+    (least_else (Among (IsActionNamed source w) before) (λ r. (action_count before ≡ 256) × IsRefusalAt w.start (kind.TooMany 256) r) b w.start kind.RepeatedName full (h w).0 (h w).1
     (λ q. least_test (action_count before ≡ 256) (count == 256) w.start (kind.TooMany 256) (λ q. let m = (Decides-eqb count 256).0 q in omega arith) (λ q. (Decides-eqb count 256).1 (omega arith)))
     (λ q k. at_later w.start (kind.TooMany 256) kind.RepeatedName q k.1 (omega arith)))
 
@@ -106,7 +106,7 @@ pub is_new : (source : List ℕ) (names : List (List ℕ)) (count : ℕ) (w : Sp
 is_new source names count w u h = go (list_any (bytes_eq (text source w)) names) refl (nothing_refused (name_refusal_by (not (list_any (bytes_eq (text source w)) names)) count w.start) u h)
   where
     go : (b : Bool) → list_any (bytes_eq (text source w)) names ≡ b → name_refusal_by (not b) count w.start ≡ None → list_any (bytes_eq (text source w)) names ≡ false
-    go true e k = absurd (some_none (record { at = w.start; kind = kind.RepeatedName }) (refused w.start kind.RepeatedName) refl k)
+    go true e k = absurd (some_none (record { at = w.start; kind = kind.RepeatedName }) (refusal_at w.start kind.RepeatedName) refl k)
     go false e k = e
 
 pub names_more : (source : List ℕ) (names : List (List ℕ)) (before : List Section) (keyword name end : Span) (items : List Item) → AreNames source names before → list_any (bytes_eq (text source name)) names ≡ false
@@ -142,13 +142,13 @@ draft_told source env name items = record {
 
 module _ (env : Env) (source : List ℕ) (e : IsEnv env) (made : HasMade env) where
   draft_least : (action : ℕ) (word end : Span) (list : List Item) (low high : ℕ) → AreRising low (all_spans item_spans list ++ end ∷ []) high
-      → IsLeastOf (λ r. PartRow (ItemRow env source action) [] list r ⊎ (IsUnobserved env source list × IsAt end.start kind.MissingPart r)) (refusal_of (draft env source action word list end))
+      → IsFirstRefusal (λ r. PartRow (ItemRow env source action) [] list r ⊎ (IsUnobserved env source list × IsRefusalAt end.start kind.MissingPart r)) (refusal_of (draft env source action word list end))
   unfolding draft draft_of sights_of
   draft_least action word end list low high rise =
       let cut = rising_split (all_spans item_spans list) (end ∷ []) low high rise in
       least_then (PartRow (ItemRow env source action) [] list) Missing (items env source action list) (λ l. draft_of env source word end.start l)
       (items_least env source e made action list low cut.0 cut.1)
-      (λ l q. subst (IsLeastOf Missing) (sym (refused_ok (sights_of end.start l.sights) (λ sights. record { name = text source word; cost = l.cost; moves = moves_of env.scope l.moves; sights = sights })))
+      (λ l q. subst (IsFirstRefusal Missing) (sym (refused_ok (sights_of end.start l.sights) (λ sights. record { name = text source word; cost = l.cost; moves = moves_of env.scope l.moves; sights = sights })))
       (missing l (items_fit env source e made action list l q) (refusal_of (in_turn (sight_step end.start) [] l.sights)) (sights_refuse end.start [] l.sights)))
       (λ r q a b.
       let first = place_below (all_spans item_spans list) low cut.0 r.at cut.1 (items_place env source e made action list r a) in
@@ -156,38 +156,38 @@ module _ (env : Env) (source : List ℕ) (e : IsEnv env) (made : HasMade env) wh
       later q r (omega arith))
     where
       Missing : Refusal → Type 0
-      Missing r = IsUnobserved env source list × IsAt end.start kind.MissingPart r
+      Missing r = IsUnobserved env source list × IsRefusalAt end.start kind.MissingPart r
 
-      missing : (l : Listed) → HasItems env source e made action list l → (o : Option Refusal) → Refuses end.start l.sights o → IsLeastOf Missing o
+      missing : (l : Listed) → HasItems env source e made action list l → (o : Option Refusal) → Refuses end.start l.sights o → IsFirstRefusal Missing o
       missing l h o (inl k) =
-          subst (IsLeastOf Missing) (sym k.0) (λ r m.
+          subst (IsFirstRefusal Missing) (sym k.0) (λ r m.
           let c = h.tables.sights_count in let small = m.0.1 in m.0.2 ((h.tables.seen m.0.0).0 (k.1 m.0.0 (omega arith))))
       missing l h o (inr k) =
           let c = h.tables.sights_count in let small = k.1.1 in
-          subst (IsLeastOf Missing) (sym k.0)
+          subst (IsFirstRefusal Missing) (sym k.0)
           (least_only Missing (record { at = end.start; kind = kind.MissingPart }) ((k.1.0, omega arith, λ m. false≢true (sym k.1.2 ∙ (h.tables.seen k.1.0).1 m)), refl) (λ r m. m.1))
 
   pub action_least : (before : List Section) (s : State) (keyword name end : Span) (list : List Item) (low high : ℕ) → s.env ≡ env → AreNames source s.names before → length s.actions ≡ action_count before
-      → AreRising low (section_spans (section_of.Action keyword name list end)) high → IsLeastOf (ActionRow env source before name list end) (refusal_of (action source s name list end))
+      → AreRising low (section_spans (section_of.Action keyword name list end)) high → IsFirstRefusal (ActionRow env source before name list end) (refusal_of (action source s name list end))
   unfolding action
   action_least before s keyword name end list low high same names count (a, b, (c, d, rise)) =
-      let N : Refusal → Type 0 = λ r. (Among (IsActionNamed source name) before × IsAt name.start kind.RepeatedName r) ⊎ ((action_count before ≡ 256) × IsAt name.start (kind.TooMany 256) r) in
-      let M : Refusal → Type 0 = λ r. PartRow (ItemRow env source (action_count before)) [] list r ⊎ (IsUnobserved env source list × IsAt end.start kind.MissingPart r) in
+      let N : Refusal → Type 0 = λ r. (Among (IsActionNamed source name) before × IsRefusalAt name.start kind.RepeatedName r) ⊎ ((action_count before ≡ 256) × IsRefusalAt name.start (kind.TooMany 256) r) in
+      let M : Refusal → Type 0 = λ r. PartRow (ItemRow env source (action_count before)) [] list r ⊎ (IsUnobserved env source list × IsRefusalAt end.start kind.MissingPart r) in
       least_then N M (checked_name source s.names (length s.actions) name) _ (name_least source s.names (length s.actions) before name names count)
-      (λ u q. subst (IsLeastOf M) (sym (refused_ok (draft s.env source (length s.actions) name list end) (λ d. record s { names = with_name s.names (text source name); actions = s.actions ++ d ∷ [] })
+      (λ u q. subst (IsFirstRefusal M) (sym (refused_ok (draft s.env source (length s.actions) name list end) (λ d. record s { names = with_name s.names (text source name); actions = s.actions ++ d ∷ [] })
       ∙ (λ i. refusal_of (draft (same i) source (count i) name list end))))
       (draft_least (action_count before) name end list name.end high rise))
       (λ r q x y. later q r (behind r q x y))
     where
-      behind : (r q : Refusal) → (Among (IsActionNamed source name) before × IsAt name.start kind.RepeatedName r) ⊎ ((action_count before ≡ 256) × IsAt name.start (kind.TooMany 256) r)
-          → PartRow (ItemRow env source (action_count before)) [] list q ⊎ (IsUnobserved env source list × IsAt end.start kind.MissingPart q) → r.at < q.at
+      behind : (r q : Refusal) → (Among (IsActionNamed source name) before × IsRefusalAt name.start kind.RepeatedName r) ⊎ ((action_count before ≡ 256) × IsRefusalAt name.start (kind.TooMany 256) r)
+          → PartRow (ItemRow env source (action_count before)) [] list q ⊎ (IsUnobserved env source list × IsRefusalAt end.start kind.MissingPart q) → r.at < q.at
       behind r q x y = let m = first x in let n = second y in omega arith
         where
-          first : (Among (IsActionNamed source name) before × IsAt name.start kind.RepeatedName r) ⊎ ((action_count before ≡ 256) × IsAt name.start (kind.TooMany 256) r) → r.at ≡ name.start
+          first : (Among (IsActionNamed source name) before × IsRefusalAt name.start kind.RepeatedName r) ⊎ ((action_count before ≡ 256) × IsRefusalAt name.start (kind.TooMany 256) r) → r.at ≡ name.start
           first (inl k) = at_place name.start kind.RepeatedName r k.1
           first (inr k) = at_place name.start (kind.TooMany 256) r k.1
 
-          second : PartRow (ItemRow env source (action_count before)) [] list q ⊎ (IsUnobserved env source list × IsAt end.start kind.MissingPart q) → name.end ≤ q.at
+          second : PartRow (ItemRow env source (action_count before)) [] list q ⊎ (IsUnobserved env source list × IsRefusalAt end.start kind.MissingPart q) → name.end ≤ q.at
           second (inl k) = place_above (all_spans item_spans list ++ end ∷ []) name.end high q.at rise (has_left (all_spans item_spans list) (end ∷ []) q.at (items_place env source e made (action_count before) list q k))
           second (inr k) = place_above (all_spans item_spans list ++ end ∷ []) name.end high q.at rise (has_right (all_spans item_spans list) (end ∷ []) q.at (inl (sym (at_place end.start kind.MissingPart q k.1))))
 

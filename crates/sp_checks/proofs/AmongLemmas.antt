@@ -7,17 +7,17 @@ use Rattle.sp_trees.specs.declared.refusal.ModelKind.{ModelKind}
 use Rattle.sp_trees.specs.declared.refusal.ModelKind.TheVariants as kind
 use Rattle.sp_trees.specs.declared.refusal.Refusal.{Refusal}
 use Rattle.sp_trees.specs.Refusals.{refused_if, rank, is_before}
-use Rattle.sp_trees.specs.Rows.{IsLeastOf, Among, IsAt}
+use Rattle.sp_trees.specs.Rows.{IsFirstRefusal, Among, IsRefusalAt}
 use Rattle.sp_trees.proofs.LeastLemmas.{least_test}
 use Rattle.sp_declarations.specs.Steps.{◌>>=◌, unless_refused}
 use Rattle.sp_declarations.specs.Rows.{HasPlace, refusal_of}
 use Rattle.sp_declarations.proofs.ChainLemmas.{place_above, later, later_kind, least_then, refused_unless}
 
-pub at_place : (at : ℕ) (k : ModelKind) (r : Refusal) → IsAt at k r → r.at ≡ at
+pub at_place : (at : ℕ) (k : ModelKind) (r : Refusal) → IsRefusalAt at k r → r.at ≡ at
 at_place at k r h = ap (λ r. r.at) h
 
 -- a refusal at the same place whose kind isn't before
-pub at_later : (at : ℕ) (j k : ModelKind) (q : Refusal) → IsAt at j q → rank k ≤ rank j → is_before q (record { at = at; kind = k }) ≡ false
+pub at_later : (at : ℕ) (j k : ModelKind) (q : Refusal) → IsRefusalAt at j q → rank k ≤ rank j → is_before q (record { at = at; kind = k }) ≡ false
 at_later at j k q h l = subst (λ q. is_before q (record { at = at; kind = k }) ≡ false) (sym h) (later_kind (record { at = at; kind = j }) (record { at = at; kind = k }) (omega arith) l)
 
 pub among_more : {X : Type 0} (P : X → Type 0) (xs : List X) (x : X) → Among P xs → Among P (xs ++ x ∷ [])
@@ -56,10 +56,10 @@ refused_rest (Err r) f h = refl
 
 -- a row that a part comes twice, and other rows behind it
 pub once_then : (P : Type 0) (b : Bool) (at low high : ℕ) (ss : List Span) (R : Refusal → Type 0) {A B : Type 0} (x : Result A Refusal) (f : A → Result B Refusal)
-    → (b ≡ true → P) → (P → b ≡ true) → at < low → AreRising low ss high → ((r : Refusal) → R r → HasPlace ss r.at) → IsLeastOf R (refusal_of x) → ((a : A) → refusal_of (f a) ≡ None)
-    → IsLeastOf (λ r. (P × IsAt at kind.RepeatedName r) ⊎ R r) (refusal_of (unless_refused (refused_if b at kind.RepeatedName) >>= λ _. (x >>= f)))
+    → (b ≡ true → P) → (P → b ≡ true) → at < low → AreRising low ss high → ((r : Refusal) → R r → HasPlace ss r.at) → IsFirstRefusal R (refusal_of x) → ((a : A) → refusal_of (f a) ≡ None)
+    → IsFirstRefusal (λ r. (P × IsRefusalAt at kind.RepeatedName r) ⊎ R r) (refusal_of (unless_refused (refused_if b at kind.RepeatedName) >>= λ _. (x >>= f)))
 once_then P b at low high ss R x f to back first rise place right rest =
-    least_then (λ r. P × IsAt at kind.RepeatedName r) R (unless_refused (refused_if b at kind.RepeatedName)) (λ _. x >>= f)
-    (subst (IsLeastOf (λ r. P × IsAt at kind.RepeatedName r)) (sym (refused_unless (refused_if b at kind.RepeatedName))) (least_test P b at kind.RepeatedName to back))
-    (λ u q. subst (IsLeastOf R) (sym (refused_rest x f rest)) right)
+    least_then (λ r. P × IsRefusalAt at kind.RepeatedName r) R (unless_refused (refused_if b at kind.RepeatedName)) (λ _. x >>= f)
+    (subst (IsFirstRefusal (λ r. P × IsRefusalAt at kind.RepeatedName r)) (sym (refused_unless (refused_if b at kind.RepeatedName))) (least_test P b at kind.RepeatedName to back))
+    (λ u q. subst (IsFirstRefusal R) (sym (refused_rest x f rest)) right)
     (λ r q a c. let m = at_place at kind.RepeatedName r a.1 in let n = place_above ss low high q.at rise (place q c) in later q r (omega arith))

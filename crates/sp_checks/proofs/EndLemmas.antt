@@ -14,7 +14,7 @@ use Rattle.sp_trees.specs.declared.refusal.Refusal.{Refusal}
 use Rattle.sp_trees.specs.declared.refusal.ModelKind.TheVariants as kind
 use Rattle.sp_trees.specs.declared.env.Env.{Env}
 use Rattle.sp_trees.specs.Refusals.{is_before, refused_if}
-use Rattle.sp_trees.specs.Rows.{IsLeastOf, Among, IsAt}
+use Rattle.sp_trees.specs.Rows.{IsFirstRefusal, Among, IsRefusalAt}
 use Rattle.sp_trees.proofs.LeastLemmas.{least_same, least_test}
 use Rattle.sp_declarations.specs.Steps.{unless_refused, in_turn}
 use Rattle.sp_declarations.specs.Rows.{refusal_of}
@@ -23,9 +23,9 @@ use Rattle.sp_declarations.proofs.ChainLemmas.{least_then, refused_ok, refused_u
 use Rattle.sp_checks.specs.declared.state.Draft.{Draft}
 use Rattle.sp_checks.specs.declared.state.State.{State}
 use Rattle.sp_checks.specs.Finish.{or_zero, reward_of, checked_reward, action_part as part_of, action_step, actions, parts, finish_by, finish}
-use Rattle.sp_checks.specs.Kept.{IsState, IsWorth}
+use Rattle.sp_checks.specs.Kept.{IsReadingState, IsRewardFunction}
 use Rattle.sp_checks.specs.Told.{env_with, env_after, first_from, all_from, init_in, discount_in, action_in, common_reward, actions_in}
-use Rattle.sp_checks.specs.Standing.{IsInit, IsDiscount, IsAction}
+use Rattle.sp_checks.specs.Standing.{IsInit, IsDiscount, IsActionSection}
 use Rattle.sp_checks.specs.RefusalTable.{IsTooMuch}
 use Rattle.sp_checks.proofs.TextRows.{EndRow}
 use Rattle.sp_checks.proofs.AmongLemmas.{at_later}
@@ -74,7 +74,7 @@ parts_told source reward s env (section_of.Horizon keyword word ∷ xs) e = part
 parts_told source reward s env (section_of.Tolerance keyword word ∷ xs) e = parts_told source reward s env xs e
 
 -- there is a draft exactly where there is an action
-no_draft : (source : List ℕ) (env : Env) (xs : List Section) → Among IsAction xs → all_from source (draft_in source) env xs ≡ [] → ⊥
+no_draft : (source : List ℕ) (env : Env) (xs : List Section) → Among IsActionSection xs → all_from source (draft_in source) env xs ≡ [] → ⊥
 no_draft source env [] m e = m
 no_draft source env (section_of.Init keyword t ∷ xs) (inl m) e = m
 no_draft source env (section_of.Init keyword t ∷ xs) (inr m) e = no_draft source env xs m e
@@ -90,7 +90,7 @@ no_draft source env (section_of.Horizon keyword word ∷ xs) (inr m) e = no_draf
 no_draft source env (section_of.Tolerance keyword word ∷ xs) (inl m) e = m
 no_draft source env (section_of.Tolerance keyword word ∷ xs) (inr m) e = no_draft source env xs m e
 
-some_draft : (source : List ℕ) (env : Env) (xs : List Section) (d : Draft) (ds : List Draft) → all_from source (draft_in source) env xs ≡ d ∷ ds → Among IsAction xs
+some_draft : (source : List ℕ) (env : Env) (xs : List Section) (d : Draft) (ds : List Draft) → all_from source (draft_in source) env xs ≡ d ∷ ds → Among IsActionSection xs
 some_draft source env [] d ds e = cc
 some_draft source env (section_of.Init keyword t ∷ xs) d ds e = inr (some_draft source env xs d ds e)
 some_draft source env (section_of.Dd keyword name t end ∷ xs) d ds e = inr (some_draft source (env_with source env (section_of.Dd keyword name t end)) xs d ds e)
@@ -117,12 +117,12 @@ module _ (s : Shape) (end : ℕ) (reward : Func) (scope : IsScope reward.shape) 
   abbrev TooMuch : Draft → Type 0
   TooMuch d = IsTooMuch (part_told s reward d)
 
-  one_least : (done : List ActionPart) (d : Draft) → IsLeastOf (λ r. TooMuch d × IsAt end kind.RewardRange r) (refusal_of (action_step s end reward done d))
+  one_least : (done : List ActionPart) (d : Draft) → IsFirstRefusal (λ r. TooMuch d × IsRefusalAt end kind.RewardRange r) (refusal_of (action_step s end reward done d))
   unfolding action_step part_of checked_reward
   one_least done d =
       let f = reward_of s reward d in
       let o = refused_if (not (is_reward f)) end kind.RewardRange in
-      subst (IsLeastOf (λ r. TooMuch d × IsAt end kind.RewardRange r))
+      subst (IsFirstRefusal (λ r. TooMuch d × IsRefusalAt end kind.RewardRange r))
       (sym (refused_ok (part_of s end reward d) (λ a. done ++ a ∷ []) ∙ refused_ok (checked_reward s end reward d) (λ r. record { name = d.name; reward = r; moves = d.moves; sight = d.sights }) ∙ refused_ok (unless_refused o) (λ _. f)
       ∙ refused_unless o))
       (least_test (TooMuch d) (not (is_reward f)) end kind.RewardRange (λ q. outside_of (neg_ℤ (pos most_reward)) (pos most_reward) f scope (flip (is_reward f) q)) (λ h. back (is_reward f) refl h))
@@ -135,14 +135,14 @@ module _ (s : Shape) (end : ℕ) (reward : Func) (scope : IsScope reward.shape) 
       back false q h = refl
       back true q h = absurd (not_outside (neg_ℤ (pos most_reward)) (pos most_reward) (reward_of s reward d) scope q h)
 
-  rewards_least : (done : List ActionPart) (ds : List Draft) → IsLeastOf (λ r. Among TooMuch ds × IsAt end kind.RewardRange r) (refusal_of (in_turn (action_step s end reward) done ds))
+  rewards_least : (done : List ActionPart) (ds : List Draft) → IsFirstRefusal (λ r. Among TooMuch ds × IsRefusalAt end kind.RewardRange r) (refusal_of (in_turn (action_step s end reward) done ds))
   unfolding in_turn
   rewards_least done [] = λ r h. h.0
   rewards_least done (d ∷ ds) =
-      least_same (λ r. (TooMuch d × IsAt end kind.RewardRange r) ⊎ (Among TooMuch ds × IsAt end kind.RewardRange r)) (λ r. Among TooMuch (d ∷ ds) × IsAt end kind.RewardRange r)
+      least_same (λ r. (TooMuch d × IsRefusalAt end kind.RewardRange r) ⊎ (Among TooMuch ds × IsRefusalAt end kind.RewardRange r)) (λ r. Among TooMuch (d ∷ ds) × IsRefusalAt end kind.RewardRange r)
       (refusal_of (in_turn (action_step s end reward) done (d ∷ ds))) (λ r c. elim c [ inl a ↦ (inl a.0, a.1) | inr a ↦ (inr a.0, a.1) ])
       (λ r c. elim c.0 [ inl a ↦ inl (a, c.1) | inr a ↦ inr (a, c.1) ])
-      (least_then (λ r. TooMuch d × IsAt end kind.RewardRange r) (λ r. Among TooMuch ds × IsAt end kind.RewardRange r) (action_step s end reward done d) (λ t. in_turn (action_step s end reward) t ds) (one_least done d)
+      (least_then (λ r. TooMuch d × IsRefusalAt end kind.RewardRange r) (λ r. Among TooMuch ds × IsRefusalAt end kind.RewardRange r) (action_step s end reward done d) (λ t. in_turn (action_step s end reward) t ds) (one_least done d)
       (λ t e. rewards_least t ds) (λ r q a b. subst (λ r. is_before q r ≡ false) (sym a.1) (at_later end kind.RewardRange kind.RewardRange q b.1 (omega arith))))
 
   step_told : (done q : List ActionPart) (d : Draft) → action_step s end reward done d ≡ Ok q → q ≡ done ++ part_told s reward d ∷ []
@@ -169,11 +169,11 @@ module _ (s : Shape) (end : ℕ) (reward : Func) (scope : IsScope reward.shape) 
 
 -- ---- the end of what was read
 
-reward_shape : (s : Shape) (o : Option Func) → IfSome o (IsWorth s) → (or_zero s o).shape ≡ s
+reward_shape : (s : Shape) (o : Option Func) → IfSome o (IsRewardFunction s) → (or_zero s o).shape ≡ s
 reward_shape s None h = refl
 reward_shape s (Some f) h = h.fit.shape
 
-module _ (source : List ℕ) (env : Env) (xs : List Section) (s : State) (h : HasRead source env xs s) (k : IsState s) (end : ℕ) where
+module _ (source : List ℕ) (env : Env) (xs : List Section) (s : State) (h : HasRead source env xs s) (k : IsReadingState s) (end : ℕ) where
   abbrev R : Func
   R = or_zero s.env.scope s.reward
 
@@ -192,30 +192,30 @@ module _ (source : List ℕ) (env : Env) (xs : List Section) (s : State) (h : Ha
   abbrev Row : Refusal → Type 0
   Row = EndRow source env xs end
 
-  missing : (¬ Among IsInit xs) ⊎ ((¬ Among IsDiscount xs) ⊎ (¬ Among IsAction xs)) → IsLeastOf Row (Some (record { at = end; kind = kind.MissingPart }))
+  missing : (¬ Among IsInit xs) ⊎ ((¬ Among IsDiscount xs) ⊎ (¬ Among IsActionSection xs)) → IsFirstRefusal Row (Some (record { at = end; kind = kind.MissingPart }))
   missing m = (
     inl (m, refl),
     λ r c. elim c [ inl a ↦ at_later end kind.MissingPart kind.MissingPart r a.1 (omega arith) | inr a ↦ at_later end kind.RewardRange kind.MissingPart r a.1 (omega arith) ],
   )
 
-  pub end_least : IsLeastOf Row (refusal_of (finish s end))
+  pub end_least : IsFirstRefusal Row (refusal_of (finish s end))
   unfolding finish parts actions
   end_least = go s.init s.discount s.actions refl refl refl
     where
-      go : (i : Option (List Factor)) (g : Option ℕ) (ds : List Draft) → s.init ≡ i → s.discount ≡ g → s.actions ≡ ds → IsLeastOf Row (refusal_of (finish_by s end i g ds))
+      go : (i : Option (List Factor)) (g : Option ℕ) (ds : List Draft) → s.init ≡ i → s.discount ≡ g → s.actions ≡ ds → IsFirstRefusal Row (refusal_of (finish_by s end i g ds))
       go None g ds ei eg ed = missing (inl (λ m. false≢true (sym (ap is_some ei) ∙ h.init.met.1 m)))
       go (Some i) None ds ei eg ed = missing (inr (inl (λ m. false≢true (sym (ap is_some eg) ∙ h.discount.met.1 m))))
       go (Some i) (Some g) [] ei eg ed = missing (inr (inr (λ m. no_draft source env xs m (sym h.actions.told ∙ ed))))
       go (Some i) (Some g) (d ∷ ds) ei eg ed =
-          subst (IsLeastOf Row) (sym (refused_ok (actions s.env.scope end R (d ∷ ds)) (λ done. record { variables = s.env.variables; sights = s.env.sights; scope = s.env.scope; discount = g; init = i; actions = done })))
-          (least_same (λ r. Among (TooMuch s.env.scope end R worth) (d ∷ ds) × IsAt end kind.RewardRange r) Row (refusal_of (actions s.env.scope end R (d ∷ ds)))
+          subst (IsFirstRefusal Row) (sym (refused_ok (actions s.env.scope end R (d ∷ ds)) (λ done. record { variables = s.env.variables; sights = s.env.sights; scope = s.env.scope; discount = g; init = i; actions = done })))
+          (least_same (λ r. Among (TooMuch s.env.scope end R worth) (d ∷ ds) × IsRefusalAt end kind.RewardRange r) Row (refusal_of (actions s.env.scope end R (d ∷ ds)))
           (λ r c. inr (subst (Among IsTooMuch) (ap (map (part_told s.env.scope R)) (sym ed) ∙ actions_are) (image_to IsTooMuch (part_told s.env.scope R) (d ∷ ds) c.0), c.1))
           (λ r c. elim c [
             | inl a ↦ absurd (full a.0)
             | inr a ↦ (image_from IsTooMuch (part_told s.env.scope R) (d ∷ ds) (subst (Among IsTooMuch) (sym actions_are ∙ ap (map (part_told s.env.scope R)) ed) a.0), a.1)
           ]) (rewards_least s.env.scope end R worth [] (d ∷ ds)))
         where
-          full : (¬ Among IsInit xs) ⊎ ((¬ Among IsDiscount xs) ⊎ (¬ Among IsAction xs)) → ⊥
+          full : (¬ Among IsInit xs) ⊎ ((¬ Among IsDiscount xs) ⊎ (¬ Among IsActionSection xs)) → ⊥
           full (inl m) = m (h.init.met.0 (ap is_some ei))
           full (inr (inl m)) = m (h.discount.met.0 (ap is_some eg))
           full (inr (inr m)) = m (some_draft source env xs d ds (sym h.actions.told ∙ ed))

@@ -13,7 +13,7 @@ use Rattle.std.proofs.Math.ListN.{get_or-append}
 use Rattle.std.proofs.Math.Seq.{get_or-append_right}
 use Rattle.sp_dd.specs.Func.{Func, IsScope}
 use Rattle.sp_model.specs.declared.parts.Factor.{Factor}
-use Rattle.sp_model.specs.Kept.{IsFactor, all_own, Rises}
+use Rattle.sp_model.specs.Kept.{IsFactor, all_own, NumbersRise}
 use Rattle.sp_rows.specs.Tables.{is_probability, bad_sum}
 use Rattle.sp_rows.proofs.LawLemmas.{probability_of, sum_whole}
 use Rattle.sp_syntax.specs.declared.text.Tree.{Tree}
@@ -30,8 +30,8 @@ use Rattle.sp_declarations.specs.Steps.{unless_refused, in_turn}
 use Rattle.sp_checks.specs.declared.roles.Role.TheVariants as role
 use Rattle.sp_checks.specs.declared.initial.Share.{Share}
 use Rattle.sp_checks.specs.declared.initial.Factored.{Factored}
-use Rattle.sp_checks.specs.Roles.{allowed, may_mention}
-use Rattle.sp_checks.specs.Initial.{own_of, shares, has_every, mentioned, share_of, sum_refusal, value_refusal_by, value_refusal, owned, factor, factor_step, no_factors, factors}
+use Rattle.sp_checks.specs.Roles.{allowed_slots, may_mention}
+use Rattle.sp_checks.specs.Initial.{own_of, shares, has_every, mentions_of_factors, share_of, sum_refusal, value_refusal_by, value_refusal, owned, factor, factor_step, no_factors, factors}
 use Rattle.sp_checks.specs.Kept.{IsFitEnv, AreFactors}
 use Rattle.sp_checks.proofs.RoleLemmas.{not_mentioned}
 use Rattle.sp_checks.proofs.OwnLemmas.{own_within}
@@ -44,7 +44,7 @@ range_rises a n i j d l m =
     let e = length-range_with_len a n in
     let x = get_or-range_with_len a n i d (omega arith) in let y = get_or-range_with_len a n j d (omega arith) in omega arith
 
-own_rises : (n : ℕ) (m : Slots) → Rises (own_of n m)
+own_rises : (n : ℕ) (m : Slots) → NumbersRise (own_of n m)
 own_rises n m = AllPairs-filter (λ i j. i < j) (λ i. has m (2 * i)) (range_with_len 0 n) (range_rises 0 n)
 
 -- what passes the test is kept
@@ -99,11 +99,11 @@ pub record IsOneFactor (env : Env) (used : Slots) (s : Share) (f : Factor) : Typ
   pub new : shares env.scope.variables used s.judged.mentions ≡ false
 
 module _ (env : Env) (source : List ℕ) (fit : IsFitEnv env) (t : Tree) where
-  kept_of : (o : Result Func Refusal) (m : Slots) (g : Func) → IfOk o (λ f. IsGood env.scope m f) → IfOk o (λ f. is_among m (allowed env.scope role.Init) ≡ true) → o ≡ Ok g → IsGood env.scope m g × (is_among m (allowed env.scope role.Init) ≡ true)
-  kept_of (Ok f) m g h k e = subst (λ (f : Func). IsGood env.scope m f × (is_among m (allowed env.scope role.Init) ≡ true)) (let same : f ≡ g = cc in same) (h, k)
+  kept_of : (o : Result Func Refusal) (m : Slots) (g : Func) → IfOk o (λ f. IsGood env.scope m f) → IfOk o (λ f. is_among m (allowed_slots env.scope role.Init) ≡ true) → o ≡ Ok g → IsGood env.scope m g × (is_among m (allowed_slots env.scope role.Init) ≡ true)
+  kept_of (Ok f) m g h k e = subst (λ (f : Func). IsGood env.scope m f × (is_among m (allowed_slots env.scope role.Init) ≡ true)) (let same : f ≡ g = cc in same) (h, k)
   kept_of (Err r) m g h k e = cc
 
-  factor_is : (m : Slots) (g : Func) → IsGood env.scope m g × (is_among m (allowed env.scope role.Init) ≡ true) → AreShares g (own_of env.scope.variables m) → IsFactor env.scope (record { func = g; own = own_of env.scope.variables m })
+  factor_is : (m : Slots) (g : Func) → IsGood env.scope m g × (is_among m (allowed_slots env.scope role.Init) ≡ true) → AreShares g (own_of env.scope.variables m) → IsFactor env.scope (record { func = g; own = own_of env.scope.variables m })
   factor_is m g k a =
       let good = k.0 in
       let scope : IsScope g.shape = subst IsScope (sym good.fit.shape) fit.env_kept.scope in
@@ -133,7 +133,7 @@ module _ (env : Env) (source : List ℕ) (fit : IsFitEnv env) (t : Tree) where
       let b = stood _ _ _ a.then in
       let c = stood _ _ _ b.then in
       let none = nothing_refused _ a.value a.was in
-      let holds = tree_holds env source (allowed env.scope role.Init) fit.env_kept t in
+      let holds = tree_holds env source (allowed_slots env.scope role.Init) fit.env_kept t in
       let is = factor_is s.judged.mentions b.value (kept_of s.judged.outcome s.judged.mentions b.value holds.0 holds.1 b.was) (shares_of s.at b.value _ (nothing_refused _ c.value c.was)) in
       let same : record { func = b.value; own = own_of env.scope.variables s.judged.mentions } ≡ f = cc (c.then) in
       record { is = subst (IsFactor env.scope) same is; own_is = ap (λ (f : Factor). f.own) (sym same); new = not_if _ s.at kind.BadScope (lesser_left _ _ none) }
@@ -256,9 +256,9 @@ module _ (env : Env) (source : List ℕ) (fit : IsFitEnv env) where
       let b = stood _ _ _ a.then in
       let all = turns_keep_factors ts no_factors b.value (none_so_far env) b.was in
       let same : b.value.list ≡ fs = cc (b.then) in
-      let every = every_true (has_every env.scope.variables (mentioned (map (share_of env source) ts))) at a.was in
+      let every = every_true (has_every env.scope.variables (mentions_of_factors (map (share_of env source) ts))) at a.was in
       subst (AreFactors env.scope) same (record {
         each = all.0.each;
         apart = all.0.apart;
-        every = λ i l. all.0.of_used i l (ap (λ u. has u (2 * i)) all.1 ∙ every_has (mentioned (map (share_of env source) ts)) i every l);
+        every = λ i l. all.0.of_used i l (ap (λ u. has u (2 * i)) all.1 ∙ every_has (mentions_of_factors (map (share_of env source) ts)) i every l);
       })

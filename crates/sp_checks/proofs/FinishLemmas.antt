@@ -10,21 +10,21 @@ use Rattle.sp_trees.specs.declared.refusal.ModelKind.TheVariants as kind
 use Rattle.sp_trees.specs.declared.env.Env.{Env}
 use Rattle.sp_trees.specs.Refusals.{refused_if}
 use Rattle.sp_declarations.specs.declared.error.ModelError.{ModelError}
-use Rattle.sp_declarations.specs.Steps.{unless_refused, Gives, Leaves}
+use Rattle.sp_declarations.specs.Steps.{unless_refused, GivesOrRunsOut, Leaves}
 use Rattle.sp_declarations.proofs.StepLemmas.{after_ok, exit_leaves, exit_gives}
 use Rattle.sp_checks.specs.declared.state.Draft.{Draft}
 use Rattle.sp_checks.specs.Finish.{or_zero, reward_of, checked_reward, action_part, action_step, actions, parts}
 
 module _ (s : Shape) (end : ℕ) (reward : Func) (d : Draft) where
-  pub range_err : (x : Result Func ModelError) (e : ModelError) (f : Func) → f ≡ reward_of s reward d → IsErrAnd x (λ q. q ≡ e) → Gives (unless_refused (refused_if (not (is_reward f)) end kind.RewardRange)) (Err e) → Gives (checked_reward s end reward d) x
+  pub range_err : (x : Result Func ModelError) (e : ModelError) (f : Func) → f ≡ reward_of s reward d → IsErrAnd x (λ q. q ≡ e) → GivesOrRunsOut (unless_refused (refused_if (not (is_reward f)) end kind.RewardRange)) (Err e) → GivesOrRunsOut (checked_reward s end reward d) x
   unfolding checked_reward
-  range_err x e f r k h = exit_gives _ _ e x (subst (λ (f : Func). Gives (unless_refused (refused_if (not (is_reward f)) end kind.RewardRange)) (Err e)) r h) k
+  range_err x e f r k h = exit_gives _ _ e x (subst (λ (f : Func). GivesOrRunsOut (unless_refused (refused_if (not (is_reward f)) end kind.RewardRange)) (Err e)) r h) k
 
   pub reward_ok : (f : Func) → f ≡ reward_of s reward d → unless_refused (refused_if (not (is_reward f)) end kind.RewardRange) ≡ Ok tt → checked_reward s end reward d ≡ Ok f
   unfolding checked_reward
   reward_ok f r h = after_ok _ _ _ _ (subst (λ (f : Func). unless_refused (refused_if (not (is_reward f)) end kind.RewardRange) ≡ Ok tt) r h) (ap Ok (sym r))
 
-  pub part_err : (x : Result ActionPart ModelError) (e : ModelError) → IsErrAnd x (λ q. q ≡ e) → Gives (checked_reward s end reward d) (Err e) → Gives (action_part s end reward d) x
+  pub part_err : (x : Result ActionPart ModelError) (e : ModelError) → IsErrAnd x (λ q. q ≡ e) → GivesOrRunsOut (checked_reward s end reward d) (Err e) → GivesOrRunsOut (action_part s end reward d) x
   unfolding action_part
   part_err x e k h = exit_gives _ _ e x h k
 
@@ -32,7 +32,7 @@ module _ (s : Shape) (end : ℕ) (reward : Func) (d : Draft) where
   unfolding action_part
   part_ok f name moves sight p n m t = after_ok _ _ _ _ p (cc (n, m, t))
 
-  pub step_err : (done : List ActionPart) (x : Result (Unit {0}) ModelError) (new : List ActionPart) (e : ModelError) → IsErrAnd x (λ q. q ≡ e) → Gives (action_part s end reward d) (Err e) → Leaves (action_step s end reward done d) x new
+  pub step_err : (done : List ActionPart) (x : Result (Unit {0}) ModelError) (new : List ActionPart) (e : ModelError) → IsErrAnd x (λ q. q ≡ e) → GivesOrRunsOut (action_part s end reward d) (Err e) → Leaves (action_step s end reward done d) x new
   unfolding action_step
   step_err done x new e k h = exit_leaves _ _ e x new h k
 
@@ -41,9 +41,9 @@ module _ (s : Shape) (end : ℕ) (reward : Func) (d : Draft) where
   step_ok done a new p n = after_ok _ _ _ _ p (ap Ok (sym n))
 
 module _ (env : Env) (end : ℕ) (init : List Factor) (discount : ℕ) (reward : Option Func) (ds : List Draft) where
-  pub parts_err : (x : Result Parts ModelError) (e : ModelError) (f : Func) → f ≡ or_zero env.scope reward → IsErrAnd x (λ q. q ≡ e) → Gives (actions env.scope end f ds) (Err e) → Gives (parts env end init discount reward ds) x
+  pub parts_err : (x : Result Parts ModelError) (e : ModelError) (f : Func) → f ≡ or_zero env.scope reward → IsErrAnd x (λ q. q ≡ e) → GivesOrRunsOut (actions env.scope end f ds) (Err e) → GivesOrRunsOut (parts env end init discount reward ds) x
   unfolding parts
-  parts_err x e f r k h = exit_gives _ _ e x (subst (λ (f : Func). Gives (actions env.scope end f ds) (Err e)) r h) k
+  parts_err x e f r k h = exit_gives _ _ e x (subst (λ (f : Func). GivesOrRunsOut (actions env.scope end f ds) (Err e)) r h) k
 
   pub parts_ok : (f : Func) (done : List ActionPart) → f ≡ or_zero env.scope reward → actions env.scope end f ds ≡ Ok done
       → parts env end init discount reward ds ≡ Ok (record { variables = env.variables; sights = env.sights; scope = env.scope; discount = discount; init = init; actions = done })

@@ -22,9 +22,9 @@ use Rattle.sp_trees.specs.declared.env.Env.{Env}
 use Rattle.sp_trees.specs.declared.env.Dd.{Dd}
 use Rattle.sp_trees.specs.Refusals.{refused_if}
 use Rattle.sp_trees.specs.Words.{text}
-use Rattle.sp_trees.specs.Dds.{found}
+use Rattle.sp_trees.specs.Dds.{dd_of_name}
 use Rattle.sp_trees.specs.Good.{IsGood, IsEnv}
-use Rattle.sp_trees.specs.Rows.{IsLeastOf, Among, IsAt}
+use Rattle.sp_trees.specs.Rows.{IsFirstRefusal, Among, IsRefusalAt}
 use Rattle.sp_trees.specs.Told.{func_of, HasMade}
 use Rattle.sp_trees.proofs.LeastLemmas.{least_same, least_only}
 use Rattle.sp_syntax.specs.Spans.{AreRising, tree_spans, section_spans, all_spans}
@@ -35,13 +35,13 @@ use Rattle.sp_declarations.proofs.ChainLemmas.{rising_split, part_place, turns_l
 use Rattle.sp_checks.specs.declared.roles.Role.TheVariants as role
 use Rattle.sp_checks.specs.declared.state.Draft.{Draft}
 use Rattle.sp_checks.specs.declared.state.State.{State}
-use Rattle.sp_checks.specs.Roles.{allowed}
+use Rattle.sp_checks.specs.Roles.{allowed_slots}
 use Rattle.sp_checks.specs.Accepted.{accepted}
 use Rattle.sp_checks.specs.Initial.{init, checked_init, factors, share_of, factor_trees}
 use Rattle.sp_checks.specs.Actions.{action, checked_name, draft}
 use Rattle.sp_checks.specs.Sections.{number_kind, checked_dd, dd, checked_reward, reward, within_range, discount_by, discount_of, checked_discount, discount, section}
 use Rattle.sp_checks.specs.Told.{env_with, env_after, or_else, first_from, all_from, factor_of, reward_in, init_in, ticks_in, discount_in}
-use Rattle.sp_checks.specs.Standing.{IsInit, IsReward, IsDiscount, IsActionNamed, IsDdNamed, one_action, action_count}
+use Rattle.sp_checks.specs.Standing.{IsInit, IsRewardSection, IsDiscount, IsActionNamed, IsDdNamed, one_action, action_count}
 use Rattle.sp_checks.proofs.TextRows.{RoleRow, InitRow, ActionRow, NumberRow, SectionRow}
 use Rattle.sp_checks.proofs.PlaceLemmas.{row_place}
 use Rattle.sp_checks.proofs.AmongLemmas.{among_more, among_last, among_split, IsMet, met_same, met_new, once_then}
@@ -53,7 +53,7 @@ use Rattle.sp_checks.proofs.ActionRowLemmas.{AreNames, is_new, names_more, draft
 
 -- ---- a discount
 
-number_least : (w : Span) (read : Result ℤ NumError) → IsLeastOf (NumberRow w.start read) (refusal_of (discount_by w.start read))
+number_least : (w : Span) (read : Result ℤ NumError) → IsFirstRefusal (NumberRow w.start read) (refusal_of (discount_by w.start read))
 number_least w (Err e) =
     least_only (NumberRow w.start (Err e)) (record { at = w.start; kind = number_kind e }) (inl (e, refl, refl))
     (λ r h. elim h [ inl p ↦ p.2 ∙ ap (λ z. record { at = w.start; kind = number_kind z }) (sym (same e p.0 (Err e) refl p.1)) | inr p ↦ absurd (apart p.0 (Err e) refl p.1) ])
@@ -64,7 +64,7 @@ number_least w (Err e) =
     apart : (v : ℤ) (r : Result ℤ NumError) → r ≡ Err e → r ≡ Ok v → ⊥
     apart v r q k = cc
 number_least w (Ok v) =
-    least_same (λ r. (¬ ((pos 0 ≤ℤ v) × (v ≤ℤ pos 999000000))) × IsAt w.start kind.DiscountRange r) (NumberRow w.start (Ok v)) (refusal_of (within_range w.start v))
+    least_same (λ r. (¬ ((pos 0 ≤ℤ v) × (v ≤ℤ pos 999000000))) × IsRefusalAt w.start kind.DiscountRange r) (NumberRow w.start (Ok v)) (refusal_of (within_range w.start v))
     (λ r p. inr (v, refl, p.0, p.1))
     (λ r h. elim h [ inl p ↦ absurd (apart p.0 (Ok v) refl p.1) | inr p ↦ (subst (λ z. ¬ ((pos 0 ≤ℤ z) × (z ≤ℤ pos 999000000))) (sym (same v p.0 (Ok v) refl p.1)) p.2, p.3) ])
     (go (int_le (pos 0) v && int_le v (pos 999000000)) refl)
@@ -91,9 +91,9 @@ number_least w (Ok v) =
         both v a b = grind (arith, ints)
 
     go : (b : Bool) → (int_le (pos 0) v && int_le v (pos 999000000)) ≡ b
-        → IsLeastOf (λ r. (¬ ((pos 0 ≤ℤ v) × (v ≤ℤ pos 999000000))) × IsAt w.start kind.DiscountRange r) (refusal_of (if b then Ok (unsigned_abs v) else Err (record { at = w.start; kind = kind.DiscountRange })))
+        → IsFirstRefusal (λ r. (¬ ((pos 0 ≤ℤ v) × (v ≤ℤ pos 999000000))) × IsRefusalAt w.start kind.DiscountRange r) (refusal_of (if b then Ok (unsigned_abs v) else Err (record { at = w.start; kind = kind.DiscountRange })))
     go true e = λ r h. h.0 (inside v e)
-    go false e = least_only (λ r. (¬ ((pos 0 ≤ℤ v) × (v ≤ℤ pos 999000000))) × IsAt w.start kind.DiscountRange r) (record { at = w.start; kind = kind.DiscountRange }) (outside v e, refl) (λ r h. h.1)
+    go false e = least_only (λ r. (¬ ((pos 0 ≤ℤ v) × (v ≤ℤ pos 999000000))) × IsRefusalAt w.start kind.DiscountRange r) (record { at = w.start; kind = kind.DiscountRange }) (outside v e, refl) (λ r h. h.1)
 
 number_told : (at : ℕ) (read : Result ℤ NumError) (g : ℕ) → discount_by at read ≡ Ok g → ticks_in read ≡ Some g
 number_told at (Err e) g h = cc
@@ -108,25 +108,25 @@ number_told at (Ok v) g h = go (int_le (pos 0) v && int_le v (pos 999000000)) h
 
 -- ---- dds by name
 
-found_more : (w n : List ℕ) (d : Dd) (ds : List (List ℕ × Dd)) → is_some (found w (ds ++ (n, d) ∷ [])) ≡ true → (is_some (found w ds) ≡ true) ⊎ (w ≡ n)
+found_more : (w n : List ℕ) (d : Dd) (ds : List (List ℕ × Dd)) → is_some (dd_of_name w (ds ++ (n, d) ∷ [])) ≡ true → (is_some (dd_of_name w ds) ≡ true) ⊎ (w ≡ n)
 found_more w n d [] h = go (bytes_eq w n) refl h
   where
-    go : (b : Bool) → bytes_eq w n ≡ b → is_some (option_map (λ (d : List ℕ × Dd). d.1) (cond b (Some (n, d)) None)) ≡ true → (is_some (found w []) ≡ true) ⊎ (w ≡ n)
+    go : (b : Bool) → bytes_eq w n ≡ b → is_some (option_map (λ (d : List ℕ × Dd). d.1) (cond b (Some (n, d)) None)) ≡ true → (is_some (dd_of_name w []) ≡ true) ⊎ (w ≡ n)
     go true e q = inr ((bytes_eq-Decides w n).0 e)
     go false e q = absurd (false≢true q)
 found_more w n d (x ∷ ds) h = go (bytes_eq w x.0) h (found_more w n d ds)
   where
-    go : (b : Bool) → is_some (option_map (λ (d : List ℕ × Dd). d.1) (cond b (Some x) (find (λ d. bytes_eq w d.0) (ds ++ (n, d) ∷ [])))) ≡ true → (is_some (found w (ds ++ (n, d) ∷ [])) ≡ true → (is_some (found w ds) ≡ true) ⊎ (w ≡ n))
+    go : (b : Bool) → is_some (option_map (λ (d : List ℕ × Dd). d.1) (cond b (Some x) (find (λ d. bytes_eq w d.0) (ds ++ (n, d) ∷ [])))) ≡ true → (is_some (dd_of_name w (ds ++ (n, d) ∷ [])) ≡ true → (is_some (dd_of_name w ds) ≡ true) ⊎ (w ≡ n))
         → (is_some (option_map (λ (d : List ℕ × Dd). d.1) (cond b (Some x) (find (λ d. bytes_eq w d.0) ds))) ≡ true) ⊎ (w ≡ n)
     go true q more = inl refl
     go false q more = more q
 
-found_kept : (w n : List ℕ) (d : Dd) (ds : List (List ℕ × Dd)) → (is_some (found w ds) ≡ true) ⊎ (w ≡ n) → is_some (found w (ds ++ (n, d) ∷ [])) ≡ true
+found_kept : (w n : List ℕ) (d : Dd) (ds : List (List ℕ × Dd)) → (is_some (dd_of_name w ds) ≡ true) ⊎ (w ≡ n) → is_some (dd_of_name w (ds ++ (n, d) ∷ [])) ≡ true
 found_kept w n d [] (inl h) = absurd (false≢true h)
 found_kept w n d [] (inr e) = ap (λ b. is_some (option_map (λ (d : List ℕ × Dd). d.1) (cond b (Some (n, d)) None))) ((bytes_eq-Decides w n).1 e)
 found_kept w n d (x ∷ ds) h = go (bytes_eq w x.0) h (found_kept w n d ds)
   where
-    go : (b : Bool) → (is_some (option_map (λ (d : List ℕ × Dd). d.1) (cond b (Some x) (find (λ d. bytes_eq w d.0) ds))) ≡ true) ⊎ (w ≡ n) → ((is_some (found w ds) ≡ true) ⊎ (w ≡ n) → is_some (found w (ds ++ (n, d) ∷ [])) ≡ true)
+    go : (b : Bool) → (is_some (option_map (λ (d : List ℕ × Dd). d.1) (cond b (Some x) (find (λ d. bytes_eq w d.0) ds))) ≡ true) ⊎ (w ≡ n) → ((is_some (dd_of_name w ds) ≡ true) ⊎ (w ≡ n) → is_some (dd_of_name w (ds ++ (n, d) ∷ [])) ≡ true)
         → is_some (option_map (λ (d : List ℕ × Dd). d.1) (cond b (Some x) (find (λ d. bytes_eq w d.0) (ds ++ (n, d) ∷ [])))) ≡ true
     go true q more = refl
     go false q more = more q
@@ -156,7 +156,7 @@ module _ (source : List ℕ) (env : Env) where
     pub is : v ≡ env_after source env before
     pub kept : IsEnv v
     pub made : HasMade v
-    pub names : (w : Span) → IsMet (IsDdNamed source w) (is_some (found (text source w) v.dds)) before
+    pub names : (w : Span) → IsMet (IsDdNamed source w) (is_some (dd_of_name (text source w) v.dds)) before
 
   -- a part that comes once
   pub record HasOnce {Y : Type 0} (P : Section → Type 0) (give : Env → Section → Option Y) (o : Option Y) (before : List Section) : Type 0 where
@@ -170,7 +170,7 @@ module _ (source : List ℕ) (env : Env) where
 
   pub record HasRead (before : List Section) (s : State) : Type 0 where
     pub dds : HasDds before s.env
-    pub reward : HasOnce IsReward (reward_in source) s.reward before
+    pub reward : HasOnce IsRewardSection (reward_in source) s.reward before
     pub discount : HasOnce IsDiscount (discount_in source) s.discount before
     pub init : HasOnce IsInit (init_in source) s.init before
     pub actions : HasActions s.names s.actions before
@@ -189,7 +189,7 @@ module _ (source : List ℕ) (env : Env) where
       is = h.is ∙ sym (env_more before x ∙ same (env_after source env before));
       kept = h.kept;
       made = h.made;
-      names = λ w. met_same (IsDdNamed source w) (is_some (found (text source w) v.dds)) before x (never w) (h.names w);
+      names = λ w. met_same (IsDdNamed source w) (is_some (dd_of_name (text source w) v.dds)) before x (never w) (h.names w);
     }
 
     once_same : {Y : Type 0} (P : Section → Type 0) (give : Env → Section → Option Y) (o : Option Y) → (P x → ⊥) → ((e : Env) → give e x ≡ None) → HasOnce P give o before → HasOnce P give o (before ++ x ∷ [])
@@ -215,24 +215,24 @@ module _ (source : List ℕ) (env : Env) where
   -- ---- rows of the sections
 
   dd_least : (before : List Section) (s : State) (keyword name end : Span) (t : Tree) (low high : ℕ) → HasRead before s → AreRising low (section_spans (section_of.Dd keyword name t end)) high
-      → IsLeastOf (SectionRow source env before (section_of.Dd keyword name t end)) (refusal_of (dd source s name t))
+      → IsFirstRefusal (SectionRow source env before (section_of.Dd keyword name t end)) (refusal_of (dd source s name t))
   unfolding dd
   dd_least before s keyword name end t low high h (a, b, (c, n, rise)) =
       let cut = rising_split (tree_spans t) (end ∷ []) name.end high rise in
-      subst (λ e. IsLeastOf (λ r. (Among (IsDdNamed source name) before × IsAt name.start kind.RepeatedName r) ⊎ RoleRow e source role.Dd t r) (refusal_of (dd source s name t))) h.dds.is
-      (once_then (Among (IsDdNamed source name) before) (is_some (found (text source name) s.env.dds)) name.start name.end cut.0 (tree_spans t) (RoleRow s.env source role.Dd t) (accepted s.env source role.Dd t) _ (h.dds.names name).0 (h.dds.names name).1 n cut.1
-      (λ r k. row_place s.env source (allowed s.env.scope role.Dd) t r k) (role_least s.env source role.Dd t h.dds.kept) (λ a. refl))
+      subst (λ e. IsFirstRefusal (λ r. (Among (IsDdNamed source name) before × IsRefusalAt name.start kind.RepeatedName r) ⊎ RoleRow e source role.Dd t r) (refusal_of (dd source s name t))) h.dds.is
+      (once_then (Among (IsDdNamed source name) before) (is_some (dd_of_name (text source name) s.env.dds)) name.start name.end cut.0 (tree_spans t) (RoleRow s.env source role.Dd t) (accepted s.env source role.Dd t) _ (h.dds.names name).0 (h.dds.names name).1 n cut.1
+      (λ r k. row_place s.env source (allowed_slots s.env.scope role.Dd) t r k) (role_least s.env source role.Dd t h.dds.kept) (λ a. refl))
 
   reward_least : (before : List Section) (s : State) (keyword : Span) (t : Tree) (low high : ℕ) → HasRead before s → AreRising low (section_spans (section_of.Reward keyword t)) high
-      → IsLeastOf (SectionRow source env before (section_of.Reward keyword t)) (refusal_of (reward source s keyword t))
+      → IsFirstRefusal (SectionRow source env before (section_of.Reward keyword t)) (refusal_of (reward source s keyword t))
   unfolding reward
   reward_least before s keyword t low high h (a, b, rise) =
-      subst (λ e. IsLeastOf (λ r. (Among IsReward before × IsAt keyword.start kind.RepeatedName r) ⊎ RoleRow e source role.Reward t r) (refusal_of (reward source s keyword t))) h.dds.is
-      (once_then (Among IsReward before) (is_some s.reward) keyword.start keyword.end high (tree_spans t) (RoleRow s.env source role.Reward t) (accepted s.env source role.Reward t) _ h.reward.met.0 h.reward.met.1 b rise
-      (λ r k. row_place s.env source (allowed s.env.scope role.Reward) t r k) (role_least s.env source role.Reward t h.dds.kept) (λ a. refl))
+      subst (λ e. IsFirstRefusal (λ r. (Among IsRewardSection before × IsRefusalAt keyword.start kind.RepeatedName r) ⊎ RoleRow e source role.Reward t r) (refusal_of (reward source s keyword t))) h.dds.is
+      (once_then (Among IsRewardSection before) (is_some s.reward) keyword.start keyword.end high (tree_spans t) (RoleRow s.env source role.Reward t) (accepted s.env source role.Reward t) _ h.reward.met.0 h.reward.met.1 b rise
+      (λ r k. row_place s.env source (allowed_slots s.env.scope role.Reward) t r k) (role_least s.env source role.Reward t h.dds.kept) (λ a. refl))
 
   discount_least : (before : List Section) (s : State) (keyword word : Span) (low high : ℕ) → HasRead before s → AreRising low (section_spans (section_of.Discount keyword word)) high
-      → IsLeastOf (SectionRow source env before (section_of.Discount keyword word)) (refusal_of (discount source s keyword word))
+      → IsFirstRefusal (SectionRow source env before (section_of.Discount keyword word)) (refusal_of (discount source s keyword word))
   unfolding discount discount_of
   discount_least before s keyword word low high h (a, b, rise) =
       once_then (Among IsDiscount before) (is_some s.discount) keyword.start keyword.end high (word ∷ []) (NumberRow word.start (ticks_of (text source word))) (discount_by word.start (ticks_of (text source word))) _ h.discount.met.0 h.discount.met.1 b rise
@@ -260,7 +260,7 @@ module _ (source : List ℕ) (env : Env) where
             (λ m. found_kept (text source w) (text source name) d s.env.dds (elim (among_split (IsDdNamed source w) before x m) [ inl a ↦ inl ((h.dds.names w).1 a) | inr p ↦ inr (sym p) ])),
           );
         };
-        reward = once_same before x IsReward (reward_in source) s.reward (λ p. p) (λ e. refl) h.reward;
+        reward = once_same before x IsRewardSection (reward_in source) s.reward (λ p. p) (λ e. refl) h.reward;
         discount = once_same before x IsDiscount (discount_in source) s.discount (λ p. p) (λ e. refl) h.discount;
         init = once_same before x IsInit (init_in source) s.init (λ p. p) (λ e. refl) h.init;
         actions = actions_same before x s.names s.actions refl (λ w p. p) (λ e. refl) h.actions;
@@ -276,7 +276,7 @@ module _ (source : List ℕ) (env : Env) where
       let x = section_of.Reward keyword t in
       subst (HasRead (before ++ x ∷ [])) (let q : record s { reward = Some b.value.func } ≡ u = cc (b.then) in q) (record {
         dds = dds_same before x s.env (λ e. refl) (λ w p. p) h.dds;
-        reward = once_new before x IsReward (reward_in source) s.reward b.value.func tt new (ap (λ e. Some (func_of e source t)) (sym h.dds.is) ∙ ap (λ f. Some f) (sym told.func)) h.reward;
+        reward = once_new before x IsRewardSection (reward_in source) s.reward b.value.func tt new (ap (λ e. Some (func_of e source t)) (sym h.dds.is) ∙ ap (λ f. Some f) (sym told.func)) h.reward;
         discount = once_same before x IsDiscount (discount_in source) s.discount (λ p. p) (λ e. refl) h.discount;
         init = once_same before x IsInit (init_in source) s.init (λ p. p) (λ e. refl) h.init;
         actions = actions_same before x s.names s.actions refl (λ w p. p) (λ e. refl) h.actions;
@@ -292,7 +292,7 @@ module _ (source : List ℕ) (env : Env) where
       let x = section_of.Discount keyword word in
       subst (HasRead (before ++ x ∷ [])) (let q : record s { discount = Some b.value } ≡ u = cc (b.then) in q) (record {
         dds = dds_same before x s.env (λ e. refl) (λ w p. p) h.dds;
-        reward = once_same before x IsReward (reward_in source) s.reward (λ p. p) (λ e. refl) h.reward;
+        reward = once_same before x IsRewardSection (reward_in source) s.reward (λ p. p) (λ e. refl) h.reward;
         discount = once_new before x IsDiscount (discount_in source) s.discount b.value tt new (number_told word.start (ticks_of (text source word)) b.value b.was) h.discount;
         init = once_same before x IsInit (init_in source) s.init (λ p. p) (λ e. refl) h.init;
         actions = actions_same before x s.names s.actions refl (λ w p. p) (λ e. refl) h.actions;
@@ -309,7 +309,7 @@ module _ (source : List ℕ) (env : Env) where
       let x = section_of.Init keyword t in
       subst (HasRead (before ++ x ∷ [])) (let q : record s { init = Some b.value } ≡ u = cc (b.then) in q) (record {
         dds = dds_same before x s.env (λ e. refl) (λ w p. p) h.dds;
-        reward = once_same before x IsReward (reward_in source) s.reward (λ p. p) (λ e. refl) h.reward;
+        reward = once_same before x IsRewardSection (reward_in source) s.reward (λ p. p) (λ e. refl) h.reward;
         discount = once_same before x IsDiscount (discount_in source) s.discount (λ p. p) (λ e. refl) h.discount;
         init = once_new before x IsInit (init_in source) s.init b.value tt new (ap (λ e. Some (map (factor_of source e) (factor_trees t))) (sym h.dds.is) ∙ ap (λ fs. Some fs) (sym told)) h.init;
         actions = actions_same before x s.names s.actions refl (λ w p. p) (λ e. refl) h.actions;
@@ -325,7 +325,7 @@ module _ (source : List ℕ) (env : Env) where
       let x = section_of.Action keyword name items end in
       subst (HasRead (before ++ x ∷ [])) (let q : record s { names = with_name s.names (text source name); actions = s.actions ++ b.value ∷ [] } ≡ u = cc (b.then) in q) (record {
         dds = dds_same before x s.env (λ e. refl) (λ w p. p) h.dds;
-        reward = once_same before x IsReward (reward_in source) s.reward (λ p. p) (λ e. refl) h.reward;
+        reward = once_same before x IsRewardSection (reward_in source) s.reward (λ p. p) (λ e. refl) h.reward;
         discount = once_same before x IsDiscount (discount_in source) s.discount (λ p. p) (λ e. refl) h.discount;
         init = once_same before x IsInit (init_in source) s.init (λ p. p) (λ e. refl) h.init;
         actions = record {
@@ -338,11 +338,11 @@ module _ (source : List ℕ) (env : Env) where
       })
 
   -- a section that changes nothing
-  unread : (before : List Section) (s : State) (x : Section) → HasRead before s → ((e : Env) → env_with source e x ≡ e) → ((w : Span) → IsDdNamed source w x → ⊥) → (IsReward x → ⊥) → ((e : Env) → reward_in source e x ≡ None)
+  unread : (before : List Section) (s : State) (x : Section) → HasRead before s → ((e : Env) → env_with source e x ≡ e) → ((w : Span) → IsDdNamed source w x → ⊥) → (IsRewardSection x → ⊥) → ((e : Env) → reward_in source e x ≡ None)
       → (IsDiscount x → ⊥) → ((e : Env) → discount_in source e x ≡ None) → (IsInit x → ⊥) → ((e : Env) → init_in source e x ≡ None) → one_action x ≡ 0 → ((w : Span) → IsActionNamed source w x → ⊥) → ((e : Env) → draft_in source e x ≡ []) → HasRead (before ++ x ∷ []) s
   unread before s x h same no_dd no_reward r no_discount d no_init i zero no_action n = record {
     dds = dds_same before x s.env same no_dd h.dds;
-    reward = once_same before x IsReward (reward_in source) s.reward no_reward r h.reward;
+    reward = once_same before x IsRewardSection (reward_in source) s.reward no_reward r h.reward;
     discount = once_same before x IsDiscount (discount_in source) s.discount no_discount d h.discount;
     init = once_same before x IsInit (init_in source) s.init no_init i h.init;
     actions = actions_same before x s.names s.actions zero no_action n h.actions;
@@ -350,13 +350,13 @@ module _ (source : List ℕ) (env : Env) where
 
   -- ---- all sections
 
-  right : (before : List Section) (s : State) (x : Section) (low high : ℕ) → HasRead before s → AreRising low (section_spans x) high → IsLeastOf (SectionRow source env before x) (refusal_of (section source s x))
+  right : (before : List Section) (s : State) (x : Section) (low high : ℕ) → HasRead before s → AreRising low (section_spans x) high → IsFirstRefusal (SectionRow source env before x) (refusal_of (section source s x))
   right before s (section_of.Init keyword t) low high h rise =
-      (subst (λ e. IsLeastOf (InitRow e source before keyword t) (refusal_of (init source s keyword t))) h.dds.is
+      (subst (λ e. IsFirstRefusal (InitRow e source before keyword t) (refusal_of (init source s keyword t))) h.dds.is
       (init_least s.env source h.dds.kept h.dds.made before s keyword t low high refl h.init.met.0 h.init.met.1 rise))
   right before s (section_of.Dd keyword name t end) low high h rise = dd_least before s keyword name end t low high h rise
   right before s (section_of.Action keyword name items end) low high h rise =
-      subst (λ e. IsLeastOf (ActionRow e source before name items end) (refusal_of (action source s name items end))) h.dds.is
+      subst (λ e. IsFirstRefusal (ActionRow e source before name items end) (refusal_of (action source s name items end))) h.dds.is
       (action_least s.env source h.dds.kept h.dds.made before s keyword name end items low high refl h.actions.named h.actions.count rise)
   right before s (section_of.Reward keyword t) low high h rise = reward_least before s keyword t low high h rise
   right before s (section_of.Discount keyword word) low high h rise = discount_least before s keyword word low high h rise
@@ -379,7 +379,7 @@ module _ (source : List ℕ) (env : Env) where
   place_in : (before : List Section) (x : Section) (r : Refusal) → SectionRow source env before x r → HasPlace (section_spans x) r.at
   place_in before x r h = section_place env source before x r h
 
-  pub sections_least : (s : State) (xs : List Section) (low high : ℕ) → HasRead [] s → AreRising low (all_spans section_spans xs) high → IsLeastOf (PartRow (SectionRow source env) [] xs) (refusal_of (in_turn (section source) s xs))
+  pub sections_least : (s : State) (xs : List Section) (low high : ℕ) → HasRead [] s → AreRising low (all_spans section_spans xs) high → IsFirstRefusal (PartRow (SectionRow source env) [] xs) (refusal_of (in_turn (section source) s xs))
   sections_least s xs low high h rise = turns_least (section source) (SectionRow source env) section_spans HasRead right next place_in [] s xs low high h rise
 
   pub sections_fit : (s u : State) (xs : List Section) → HasRead [] s → in_turn (section source) s xs ≡ Ok u → HasRead xs u

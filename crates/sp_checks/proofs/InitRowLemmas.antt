@@ -22,10 +22,10 @@ use Rattle.sp_trees.specs.declared.judged.Judged.{Judged}
 use Rattle.sp_trees.specs.Refusals.{is_before, lesser, refused_if}
 use Rattle.sp_trees.specs.Slots.{none, union, has}
 use Rattle.sp_trees.specs.Judged.{refusal}
-use Rattle.sp_trees.specs.Judge.{judged}
+use Rattle.sp_trees.specs.Judge.{judgement}
 use Rattle.sp_trees.specs.Conditions.{HasOutside}
 use Rattle.sp_trees.specs.Good.{IsEnv}
-use Rattle.sp_trees.specs.Rows.{IsLeastOf, Among, IsAt}
+use Rattle.sp_trees.specs.Rows.{IsFirstRefusal, Among, IsRefusalAt}
 use Rattle.sp_trees.specs.Told.{func_of, mentions_of, HasMade}
 use Rattle.sp_trees.proofs.SlotLemmas.{has_union, has_none}
 use Rattle.sp_trees.proofs.MentionLemmas.{lesser_none}
@@ -41,9 +41,9 @@ use Rattle.sp_declarations.proofs.ChainLemmas.{later, least_then, place_above, r
 use Rattle.sp_checks.specs.declared.roles.Role.TheVariants as role
 use Rattle.sp_checks.specs.declared.initial.Share.{Share}
 use Rattle.sp_checks.specs.declared.initial.Factored.{Factored}
-use Rattle.sp_checks.specs.Roles.{start_of, allowed}
+use Rattle.sp_checks.specs.Roles.{start_of, allowed_slots}
 use Rattle.sp_checks.specs.declared.state.State.{State}
-use Rattle.sp_checks.specs.Initial.{factor_trees, has_every, mentioned, checked_every, factors, checked_init, init, own_of, shares, share_of, sum_refusal, value_refusal_by, value_refusal, checked_share, checked_values, owned, factor, factor_step, no_factors, factors_in_turn}
+use Rattle.sp_checks.specs.Initial.{factor_trees, has_every, mentions_of_factors, checked_every, factors, checked_init, init, own_of, shares, share_of, sum_refusal, value_refusal_by, value_refusal, checked_share, checked_values, owned, factor, factor_step, no_factors, factors_in_turn}
 use Rattle.sp_checks.specs.Standing.{IsInit}
 use Rattle.sp_checks.proofs.TextRows.{RoleRow, FactorRow, InitRow}
 use Rattle.sp_checks.specs.Told.{factor_of}
@@ -84,21 +84,21 @@ module _ (env : Env) (source : List ℕ) (e : IsEnv env) (made : HasMade env) wh
   m t = mentions_of env source t
 
   abbrev j : Tree → Judged
-  j t = judged env source (allowed env.scope role.Init) t
+  j t = judgement env source (allowed_slots env.scope role.Init) t
 
   abbrev Shared : List Tree → Tree → Type 0
   Shared before t = (i : ℕ) × (i < env.scope.variables) × (has (m t) (2 * i) ≡ true) × Among (λ u. has (m u) (2 * i) ≡ true) before
 
   abbrev ShareRow : List Tree → Tree → Refusal → Type 0
-  ShareRow before t r = Shared before t × IsAt (start_of t) kind.BadScope r
+  ShareRow before t r = Shared before t × IsRefusalAt (start_of t) kind.BadScope r
 
   abbrev ValueRow : Tree → Refusal → Type 0
   ValueRow t r =
-      (HasOutside (pos 0) (pos ticks) (func_of env source t) × IsAt (start_of t) kind.BadProbability r)
+      (HasOutside (pos 0) (pos ticks) (func_of env source t) × IsRefusalAt (start_of t) kind.BadProbability r)
       ⊎ ((¬ HasOutside (pos 0) (pos ticks) (func_of env source t))
-      × ((sum : ℤ) × (bad_sum (func_of env source t) (own_of env.scope.variables (m t)) ≡ Some sum) × IsAt (start_of t) (kind.InitSum sum) r))
+      × ((sum : ℤ) × (bad_sum (func_of env source t) (own_of env.scope.variables (m t)) ≡ Some sum) × IsRefusalAt (start_of t) (kind.InitSum sum) r))
 
-  value_least : (t : Tree) → IsLeastOf (ValueRow t) (value_refusal (start_of t) (func_of env source t) (own_of env.scope.variables (m t)))
+  value_least : (t : Tree) → IsFirstRefusal (ValueRow t) (value_refusal (start_of t) (func_of env source t) (own_of env.scope.variables (m t)))
   unfolding value_refusal
   value_least t = go (is_probability f) refl
     where
@@ -108,7 +108,7 @@ module _ (env : Env) (source : List ℕ) (e : IsEnv env) (made : HasMade env) wh
       own : List ℕ
       own = own_of env.scope.variables (m t)
 
-      sums : ¬ HasOutside (pos 0) (pos ticks) f → (o : Option ℤ) → bad_sum f own ≡ o → IsLeastOf (ValueRow t) (sum_refusal (start_of t) o)
+      sums : ¬ HasOutside (pos 0) (pos ticks) f → (o : Option ℤ) → bad_sum f own ≡ o → IsFirstRefusal (ValueRow t) (sum_refusal (start_of t) o)
       sums fits None q = λ r h. elim h [ inl p ↦ fits p.0 | inr p ↦ apart p.1.0 (bad_sum f own) q p.1.1 ]
         where
           apart : (b : ℤ) (o : Option ℤ) → o ≡ None → o ≡ Some b → ⊥
@@ -120,7 +120,7 @@ module _ (env : Env) (source : List ℕ) (e : IsEnv env) (made : HasMade env) wh
           same : (a b : ℤ) (o : Option ℤ) → o ≡ Some a → o ≡ Some b → a ≡ b
           same a b o q k = cc
 
-      go : (b : Bool) → is_probability f ≡ b → IsLeastOf (ValueRow t) (value_refusal_by (start_of t) f own b)
+      go : (b : Bool) → is_probability f ≡ b → IsFirstRefusal (ValueRow t) (value_refusal_by (start_of t) f own b)
       go true q = sums (not_outside (pos 0) (pos ticks) f e.scope q) (bad_sum f own) refl
       go false q =
           least_only (ValueRow t) (record { at = start_of t; kind = kind.BadProbability }) (inl (outside_of (pos 0) (pos ticks) f e.scope q, refl)) (λ r h. elim h [ inl p ↦ p.1 | inr p ↦ absurd (p.0 (outside_of (pos 0) (pos ticks) f e.scope q)) ])
@@ -156,9 +156,9 @@ module _ (env : Env) (source : List ℕ) (e : IsEnv env) (made : HasMade env) wh
   step r t = factor_step env.scope.variables r (share_of env source t)
 
   said : (t : Tree) → (j t).mentions ≡ m t
-  said t = (trees_told env source (allowed env.scope role.Init) t e made).0
+  said t = (trees_told env source (allowed_slots env.scope role.Init) t e made).0
 
-  share_least : (before : List Tree) (r : Factored) (t : Tree) → HasUsed before r → IsLeastOf (ShareRow before t) (refused_if (shares env.scope.variables r.used (j t).mentions) (start_of t) kind.BadScope)
+  share_least : (before : List Tree) (r : Factored) (t : Tree) → HasUsed before r → IsFirstRefusal (ShareRow before t) (refused_if (shares env.scope.variables r.used (j t).mentions) (start_of t) kind.BadScope)
   share_least before r t h = least_test (Shared before t) (shares env.scope.variables r.used (j t).mentions) (start_of t) kind.BadScope to back
     where
       to : shares env.scope.variables r.used (j t).mentions ≡ true → Shared before t
@@ -177,9 +177,9 @@ module _ (env : Env) (source : List ℕ) (e : IsEnv env) (made : HasMade env) wh
           two true b p q = q
           two false b p q = p
 
-  factor_least : (before : List Tree) (r : Factored) (t : Tree) → HasUsed before r → IsLeastOf (FactorRow env source before t) (refusal_of (step r t))
+  factor_least : (before : List Tree) (r : Factored) (t : Tree) → HasUsed before r → IsFirstRefusal (FactorRow env source before t) (refusal_of (step r t))
   unfolding factor_step factor owned
-  factor_least before r t h = subst (IsLeastOf (FactorRow env source before t)) (sym (refused_ok found (λ f. record { used = union r.used (j t).mentions; list = r.list ++ f ∷ [] }))) (go (lesser first (refusal (j t).outcome)) (j t).outcome refl refl both)
+  factor_least before r t h = subst (IsFirstRefusal (FactorRow env source before t)) (sym (refused_ok found (λ f. record { used = union r.used (j t).mentions; list = r.list ++ f ∷ [] }))) (go (lesser first (refusal (j t).outcome)) (j t).outcome refl refl both)
     where
       s : Share
       s = share_of env source t
@@ -193,22 +193,22 @@ module _ (env : Env) (source : List ℕ) (e : IsEnv env) (made : HasMade env) wh
       found : Result Factor Refusal
       found = unless_refused (lesser first (refusal (j t).outcome)) >>= after (j t).outcome
 
-      both : IsLeastOf (λ r. ShareRow before t r ⊎ RoleRow env source role.Init t r) (lesser first (refusal (j t).outcome))
-      both = least_either (ShareRow before t) (RoleRow env source role.Init t) first (refusal (j t).outcome) (share_least before r t h) (tree_least env source (allowed env.scope role.Init) t e)
+      both : IsFirstRefusal (λ r. ShareRow before t r ⊎ RoleRow env source role.Init t r) (lesser first (refusal (j t).outcome))
+      both = least_either (ShareRow before t) (RoleRow env source role.Init t) first (refusal (j t).outcome) (share_least before r t h) (tree_least env source (allowed_slots env.scope role.Init) t e)
 
-      value_later : (x q : Refusal) → IsAt (start_of t) kind.BadScope x → ValueRow t q → is_before q x ≡ false
+      value_later : (x q : Refusal) → IsRefusalAt (start_of t) kind.BadScope x → ValueRow t q → is_before q x ≡ false
       value_later x q a (inl v) = subst (λ x. is_before q x ≡ false) (sym a) (at_later (start_of t) kind.BadProbability kind.BadScope q v.1 (omega arith))
       value_later x q a (inr v) = subst (λ x. is_before q x ≡ false) (sym a) (at_later (start_of t) (kind.InitSum v.1.0) kind.BadScope q v.1.2 (omega arith))
 
-      last : (f : Func) → (j t).outcome ≡ Ok f → IsLeastOf (ValueRow t) (refusal_of (owned env.scope.variables s f))
+      last : (f : Func) → (j t).outcome ≡ Ok f → IsFirstRefusal (ValueRow t) (refusal_of (owned env.scope.variables s f))
       last f q =
-          let same : f ≡ func_of env source t = subst (λ o. IfOk o (λ f. f ≡ func_of env source t)) q (trees_told env source (allowed env.scope role.Init) t e made).1 in
-          subst (IsLeastOf (ValueRow t)) (sym (refused_ok (checked_values (start_of t) f (own_of env.scope.variables (j t).mentions)) (λ _. record { func = f; own = own_of env.scope.variables (j t).mentions })
+          let same : f ≡ func_of env source t = subst (λ o. IfOk o (λ f. f ≡ func_of env source t)) q (trees_told env source (allowed_slots env.scope role.Init) t e made).1 in
+          subst (IsFirstRefusal (ValueRow t)) (sym (refused_ok (checked_values (start_of t) f (own_of env.scope.variables (j t).mentions)) (λ _. record { func = f; own = own_of env.scope.variables (j t).mentions })
           ∙ refused_unless (value_refusal (start_of t) f (own_of env.scope.variables (j t).mentions))
           ∙ (λ i. value_refusal (start_of t) (same i) (own_of env.scope.variables (said t i))))) (value_least t)
 
-      go : (c : Option Refusal) (o : Result Func Refusal) → lesser first (refusal (j t).outcome) ≡ c → (j t).outcome ≡ o → IsLeastOf (λ r. ShareRow before t r ⊎ RoleRow env source role.Init t r) c
-          → IsLeastOf (FactorRow env source before t) (refusal_of (unless_refused c >>= after o))
+      go : (c : Option Refusal) (o : Result Func Refusal) → lesser first (refusal (j t).outcome) ≡ c → (j t).outcome ≡ o → IsFirstRefusal (λ r. ShareRow before t r ⊎ RoleRow env source role.Init t r) c
+          → IsFirstRefusal (FactorRow env source before t) (refusal_of (unless_refused c >>= after o))
       go (Some x) o q k l = (
         elim l.0 [ inl a ↦ inl a | inr b ↦ inr (inl b) ],
         λ r c. elim c [ inl a ↦ l.1 r (inl a) | inr d ↦ elim d [ inl b ↦ l.1 r (inr b) | inr v ↦ elim l.0 [ inl a ↦ value_later x r a.1 v.1 | inr b ↦ absurd (v.0 x b) ] ] ],
@@ -229,7 +229,7 @@ module _ (env : Env) (source : List ℕ) (e : IsEnv env) (made : HasMade env) wh
       let b = stood (checked_share n r.used s) (λ _. (j t).outcome >>= λ g. owned n s g) f q in
       let c = stood (j t).outcome (λ g. owned n s g) f b.then in
       let d = stood (checked_values s.at c.value (own_of n (j t).mentions)) (λ _. Ok (record { func = c.value; own = own_of n (j t).mentions })) f c.then in
-      let same : c.value ≡ func_of env source t = subst (λ o. IfOk o (λ g. g ≡ func_of env source t)) c.was (trees_told env source (allowed env.scope role.Init) t e made).1 in
+      let same : c.value ≡ func_of env source t = subst (λ o. IfOk o (λ g. g ≡ func_of env source t)) c.was (trees_told env source (allowed_slots env.scope role.Init) t e made).1 in
       sym (let z : record { func = c.value; own = own_of n (j t).mentions } ≡ f = cc (d.then) in z) ∙ (λ i. record { func = same i; own = own_of n (said t i) })
 
   factor_next : (before : List Tree) (r u : Factored) (t : Tree) → HasUsed before r → step r t ≡ Ok u → HasUsed (before ++ t ∷ []) u
@@ -258,7 +258,7 @@ module _ (env : Env) (source : List ℕ) (e : IsEnv env) (made : HasMade env) wh
   factor_at : (before : List Tree) (t : Tree) (r : Refusal) → FactorRow env source before t r → HasPlace (tree_spans t) r.at
   factor_at before t r h = factor_place env source before t r h
 
-  factor_right : (before : List Tree) (r : Factored) (t : Tree) (low high : ℕ) → HasUsed before r → AreRising low (tree_spans t) high → IsLeastOf (FactorRow env source before t) (refusal_of (step r t))
+  factor_right : (before : List Tree) (r : Factored) (t : Tree) (low high : ℕ) → HasUsed before r → AreRising low (tree_spans t) high → IsFirstRefusal (FactorRow env source before t) (refusal_of (step r t))
   factor_right before r t low high h rise = factor_least before r t h
 
   nothing_used : HasUsed [] no_factors
@@ -266,9 +266,9 @@ module _ (env : Env) (source : List ℕ) (e : IsEnv env) (made : HasMade env) wh
 
   -- the factors in turn answer the least row
   pub factors_least : (ts : List Tree) (low high : ℕ) → AreRising low (all_spans tree_spans ts) high
-      → IsLeastOf (PartRow (FactorRow env source) [] ts) (refusal_of (factors_in_turn env.scope.variables (map (share_of env source) ts)))
+      → IsFirstRefusal (PartRow (FactorRow env source) [] ts) (refusal_of (factors_in_turn env.scope.variables (map (share_of env source) ts)))
   factors_least ts low high rise =
-      subst (λ r. IsLeastOf (PartRow (FactorRow env source) [] ts) (refusal_of r)) (sym (in_turn_map (factor_step env.scope.variables) (share_of env source) no_factors ts))
+      subst (λ r. IsFirstRefusal (PartRow (FactorRow env source) [] ts) (refusal_of r)) (sym (in_turn_map (factor_step env.scope.variables) (share_of env source) no_factors ts))
       (turns_least step (FactorRow env source) tree_spans HasUsed factor_right factor_next factor_at [] no_factors ts low high nothing_used rise)
 
   factors_told : (ts : List Tree) (r : Factored) → factors_in_turn env.scope.variables (map (share_of env source) ts) ≡ Ok r → r.list ≡ map (factor_of source env) ts
@@ -301,12 +301,12 @@ module _ (env : Env) (source : List ℕ) (e : IsEnv env) (made : HasMade env) wh
       right_or true b k = refl
       right_or false b k = k
 
-  every_least : (at : ℕ) (ts : List Tree) → IsLeastOf (λ r. ((i : ℕ) × (i < env.scope.variables) × (¬ Among (λ u. has (m u) (2 * i) ≡ true) ts)) × IsAt at kind.BadScope r)
-      (refused_if (not (has_every env.scope.variables (mentioned (map (share_of env source) ts)))) at kind.BadScope)
+  every_least : (at : ℕ) (ts : List Tree) → IsFirstRefusal (λ r. ((i : ℕ) × (i < env.scope.variables) × (¬ Among (λ u. has (m u) (2 * i) ≡ true) ts)) × IsRefusalAt at kind.BadScope r)
+      (refused_if (not (has_every env.scope.variables (mentions_of_factors (map (share_of env source) ts)))) at kind.BadScope)
   every_least at ts = least_test ((i : ℕ) × (i < env.scope.variables) × (¬ Among (λ u. has (m u) (2 * i) ≡ true) ts)) (not all) at kind.BadScope to back
     where
       all : Bool
-      all = has_every env.scope.variables (mentioned (map (share_of env source) ts))
+      all = has_every env.scope.variables (mentions_of_factors (map (share_of env source) ts))
 
       flip : (b : Bool) → not b ≡ true → b ≡ false
       flip true q = sym q
@@ -314,15 +314,15 @@ module _ (env : Env) (source : List ℕ) (e : IsEnv env) (made : HasMade env) wh
 
       to : not all ≡ true → (i : ℕ) × (i < env.scope.variables) × (¬ Among (λ u. has (m u) (2 * i) ≡ true) ts)
       to q =
-          let k = range_not (λ i. has (mentioned (map (share_of env source) ts)) (2 * i)) 0 env.scope.variables (flip all q) in
+          let k = range_not (λ i. has (mentions_of_factors (map (share_of env source) ts)) (2 * i)) 0 env.scope.variables (flip all q) in
           let low = k.2 in
           (k.0, omega arith, λ a. false≢true (sym k.3 ∙ mentioned_from (2 * k.0) none ts (inr a)))
 
       back : (i : ℕ) × (i < env.scope.variables) × (¬ Among (λ u. has (m u) (2 * i) ≡ true) ts) → not all ≡ true
       back (i, l, never) = go all refl
         where
-          there : all ≡ true → has (mentioned (map (share_of env source) ts)) (2 * i) ≡ true
-          there q = range_at (λ i. has (mentioned (map (share_of env source) ts)) (2 * i)) 0 env.scope.variables i q (omega arith) (omega arith)
+          there : all ≡ true → has (mentions_of_factors (map (share_of env source) ts)) (2 * i) ≡ true
+          there q = range_at (λ i. has (mentions_of_factors (map (share_of env source) ts)) (2 * i)) 0 env.scope.variables i q (omega arith) (omega arith)
 
           go : (b : Bool) → all ≡ b → not b ≡ true
           go false q = refl
@@ -331,21 +331,21 @@ module _ (env : Env) (source : List ℕ) (e : IsEnv env) (made : HasMade env) wh
   -- ---- the section
 
   pub init_least : (before : List Section) (s : State) (keyword : Span) (t : Tree) (low high : ℕ) → s.env ≡ env → (is_some s.init ≡ true → Among IsInit before) → (Among IsInit before → is_some s.init ≡ true)
-      → AreRising low (keyword ∷ tree_spans t) high → IsLeastOf (InitRow env source before keyword t) (refusal_of (init source s keyword t))
+      → AreRising low (keyword ∷ tree_spans t) high → IsFirstRefusal (InitRow env source before keyword t) (refusal_of (init source s keyword t))
   unfolding init factors
   init_least before s keyword t low high same to back (a, b, rise) =
       let wide = factor_rise t keyword.end high rise in
       let at = keyword.start in
       let P : Type 0 = (i : ℕ) × (i < env.scope.variables) × (¬ Among (λ u. has (m u) (2 * i) ≡ true) (factor_trees t)) in
-      let E : Refusal → Type 0 = λ r. P × IsAt at kind.BadScope r in
+      let E : Refusal → Type 0 = λ r. P × IsRefusalAt at kind.BadScope r in
       let F : Refusal → Type 0 = PartRow (FactorRow env source) [] (factor_trees t) in
       let behind : (r : Refusal) → F r → at < r.at = λ r f. let low_place = place_above (all_spans tree_spans (factor_trees t)) wide.0 wide.1 r.at wide.3 (factors_place env source (factor_trees t) r f) in let w = wide.2 in omega arith in
-      least_then (λ r. Among IsInit before × IsAt at kind.RepeatedName r) (λ r. E r ⊎ F r) (checked_init s at) _
-      (subst (IsLeastOf (λ r. Among IsInit before × IsAt at kind.RepeatedName r)) (sym (refused_unless (refused_if (is_some s.init) at kind.RepeatedName))) (least_test (Among IsInit before) (is_some s.init) at kind.RepeatedName to back))
-      (λ u q. subst (λ (v : Env). IsLeastOf (λ r. E r ⊎ F r) (refusal_of (factors v.scope.variables at (map (share_of v source) (factor_trees t)) >>= λ fs. Ok (record s { init = Some fs })))) (sym same)
-      (subst (IsLeastOf (λ r. E r ⊎ F r)) (sym (refused_ok (factors env.scope.variables at (map (share_of env source) (factor_trees t))) (λ fs. record s { init = Some fs })))
+      least_then (λ r. Among IsInit before × IsRefusalAt at kind.RepeatedName r) (λ r. E r ⊎ F r) (checked_init s at) _
+      (subst (IsFirstRefusal (λ r. Among IsInit before × IsRefusalAt at kind.RepeatedName r)) (sym (refused_unless (refused_if (is_some s.init) at kind.RepeatedName))) (least_test (Among IsInit before) (is_some s.init) at kind.RepeatedName to back))
+      (λ u q. subst (λ (v : Env). IsFirstRefusal (λ r. E r ⊎ F r) (refusal_of (factors v.scope.variables at (map (share_of v source) (factor_trees t)) >>= λ fs. Ok (record s { init = Some fs })))) (sym same)
+      (subst (IsFirstRefusal (λ r. E r ⊎ F r)) (sym (refused_ok (factors env.scope.variables at (map (share_of env source) (factor_trees t))) (λ fs. record s { init = Some fs })))
       (least_then E F (checked_every env.scope.variables at (map (share_of env source) (factor_trees t))) _
-      (subst (IsLeastOf E) (sym (refused_unless (refused_if (not (has_every env.scope.variables (mentioned (map (share_of env source) (factor_trees t))))) at kind.BadScope))) (every_least at (factor_trees t)))
-      (λ u q. subst (IsLeastOf F) (sym (refused_ok (factors_in_turn env.scope.variables (map (share_of env source) (factor_trees t))) (λ r. r.list))) (factors_least (factor_trees t) wide.0 wide.1 wide.3))
+      (subst (IsFirstRefusal E) (sym (refused_unless (refused_if (not (has_every env.scope.variables (mentions_of_factors (map (share_of env source) (factor_trees t))))) at kind.BadScope))) (every_least at (factor_trees t)))
+      (λ u q. subst (IsFirstRefusal F) (sym (refused_ok (factors_in_turn env.scope.variables (map (share_of env source) (factor_trees t))) (λ r. r.list))) (factors_least (factor_trees t) wide.0 wide.1 wide.3))
       (λ r q x y. let first : r.at ≡ at = ap (λ r. r.at) x.1 in let second = behind q y in later q r (omega arith)))))
       (λ r q x y. let first : r.at ≡ at = ap (λ r. r.at) x.1 in elim y [ inl z ↦ subst (λ r. is_before q r ≡ false) (sym x.1) (at_later at kind.BadScope kind.RepeatedName q z.1 (omega arith)) | inr z ↦ (let second = behind q z in later q r (omega arith)) ])

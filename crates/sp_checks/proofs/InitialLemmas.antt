@@ -8,7 +8,7 @@ use Rattle.sp_model.specs.declared.parts.Factor.{Factor}
 use Rattle.sp_trees.specs.declared.slots.Slots.{Slots}
 use Rattle.sp_trees.specs.Slots.{union}
 use Rattle.sp_declarations.specs.declared.error.ModelError.{ModelError}
-use Rattle.sp_declarations.specs.Steps.{Gives, Leaves}
+use Rattle.sp_declarations.specs.Steps.{GivesOrRunsOut, Leaves}
 use Rattle.sp_declarations.proofs.StepLemmas.{after, after_ok, exit_leaves, exit_gives}
 use Rattle.sp_checks.specs.declared.initial.Share.{Share}
 use Rattle.sp_checks.specs.declared.initial.Factored.{Factored}
@@ -18,22 +18,22 @@ use Rattle.sp_checks.specs.Initial.{own_of, share_of, checked_share, checked_val
 -- one factor
 module _ (n : ℕ) (used : Slots) (s : Share) where
   module _ (x : Result Factor ModelError) (e : ModelError) (k : IsErrAnd x (λ q. q ≡ e)) where
-    pub share_err : Gives (checked_share n used s) (Err e) → Gives (factor n used s) x
+    pub share_err : GivesOrRunsOut (checked_share n used s) (Err e) → GivesOrRunsOut (factor n used s) x
     unfolding factor
     share_err h = exit_gives _ _ e x h k
 
-    pub func_err : checked_share n used s ≡ Ok tt → Gives s.judged.outcome (Err e) → Gives (factor n used s) x
+    pub func_err : checked_share n used s ≡ Ok tt → GivesOrRunsOut s.judged.outcome (Err e) → GivesOrRunsOut (factor n used s) x
     unfolding factor
     func_err p h = after _ _ _ _ p (exit_gives _ _ e x h k)
 
-  pub factor_then : (f : Func) (x : Result Factor ModelError) → checked_share n used s ≡ Ok tt → s.judged.outcome ≡ Ok f → Gives (owned n s f) x → Gives (factor n used s) x
+  pub factor_then : (f : Func) (x : Result Factor ModelError) → checked_share n used s ≡ Ok tt → s.judged.outcome ≡ Ok f → GivesOrRunsOut (owned n s f) x → GivesOrRunsOut (factor n used s) x
   unfolding factor
   factor_then f x p q h = after _ _ _ _ p (after _ _ _ _ q h)
 
 module _ (n : ℕ) (s : Share) (f : Func) (own : List ℕ) (o : own ≡ own_of n s.judged.mentions) where
-  pub values_err : (x : Result Factor ModelError) (e : ModelError) → IsErrAnd x (λ q. q ≡ e) → Gives (checked_values s.at f own) (Err e) → Gives (owned n s f) x
+  pub values_err : (x : Result Factor ModelError) (e : ModelError) → IsErrAnd x (λ q. q ≡ e) → GivesOrRunsOut (checked_values s.at f own) (Err e) → GivesOrRunsOut (owned n s f) x
   unfolding owned
-  values_err x e k h = exit_gives _ _ e x (subst (λ (own : List ℕ). Gives (checked_values s.at f own) (Err e)) o h) k
+  values_err x e k h = exit_gives _ _ e x (subst (λ (own : List ℕ). GivesOrRunsOut (checked_values s.at f own) (Err e)) o h) k
 
   pub owned_ok : (g : Func) → g ≡ f → checked_values s.at f own ≡ Ok tt → owned n s f ≡ Ok (record { func = g; own = own })
   unfolding owned
@@ -41,7 +41,7 @@ module _ (n : ℕ) (s : Share) (f : Func) (own : List ℕ) (o : own ≡ own_of n
 
 -- the factors with one more
 module _ (n : ℕ) (r : Factored) (s : Share) where
-  pub factor_err : (x : Result (Unit {0}) ModelError) (new : Factored) (e : ModelError) → IsErrAnd x (λ q. q ≡ e) → Gives (factor n r.used s) (Err e) → Leaves (factor_step n r s) x new
+  pub factor_err : (x : Result (Unit {0}) ModelError) (new : Factored) (e : ModelError) → IsErrAnd x (λ q. q ≡ e) → GivesOrRunsOut (factor n r.used s) (Err e) → Leaves (factor_step n r s) x new
   unfolding factor_step
   factor_err x new e k h = exit_leaves _ _ e x new h k
 
@@ -52,11 +52,11 @@ module _ (n : ℕ) (r : Factored) (s : Share) where
 -- all factors
 module _ (n at : ℕ) (list : List Share) where
   module _ (x : Result (List Factor) ModelError) (e : ModelError) (k : IsErrAnd x (λ q. q ≡ e)) where
-    pub every_err : Gives (checked_every n at list) (Err e) → Gives (factors n at list) x
+    pub every_err : GivesOrRunsOut (checked_every n at list) (Err e) → GivesOrRunsOut (factors n at list) x
     unfolding factors
     every_err h = exit_gives _ _ e x h k
 
-    pub turns_err : checked_every n at list ≡ Ok tt → Gives (factors_in_turn n list) (Err e) → Gives (factors n at list) x
+    pub turns_err : checked_every n at list ≡ Ok tt → GivesOrRunsOut (factors_in_turn n list) (Err e) → GivesOrRunsOut (factors n at list) x
     unfolding factors
     turns_err p h = after _ _ _ _ p (exit_gives _ _ e x h k)
 
@@ -67,11 +67,11 @@ module _ (n at : ℕ) (list : List Share) where
 -- the section
 module _ (source : List ℕ) (s : State) (keyword : Span) (t : Tree) where
   module _ (x : Result (Unit {0}) ModelError) (new : State) (e : ModelError) (k : IsErrAnd x (λ q. q ≡ e)) where
-    pub init_err : Gives (checked_init s keyword.start) (Err e) → Leaves (init source s keyword t) x new
+    pub init_err : GivesOrRunsOut (checked_init s keyword.start) (Err e) → Leaves (init source s keyword t) x new
     unfolding init
     init_err h = exit_leaves _ _ e x new h k
 
-    pub factors_err : checked_init s keyword.start ≡ Ok tt → Gives (factors s.env.scope.variables keyword.start (map (share_of s.env source) (factor_trees t))) (Err e) → Leaves (init source s keyword t) x new
+    pub factors_err : checked_init s keyword.start ≡ Ok tt → GivesOrRunsOut (factors s.env.scope.variables keyword.start (map (share_of s.env source) (factor_trees t))) (Err e) → Leaves (init source s keyword t) x new
     unfolding init
     factors_err p h = after _ _ _ _ p (exit_leaves _ _ e x new h k)
 

@@ -23,7 +23,7 @@ use Rattle.sp_trees.specs.Refusals.{is_before, rank, refused_if}
 use Rattle.sp_trees.specs.Words.{text}
 use Rattle.sp_trees.specs.Nodes.{place_of}
 use Rattle.sp_trees.specs.Good.{IsEnv}
-use Rattle.sp_trees.specs.Rows.{IsLeastOf, Among, IsAt}
+use Rattle.sp_trees.specs.Rows.{IsFirstRefusal, Among, IsRefusalAt}
 use Rattle.sp_trees.specs.Told.{func_of, HasMade}
 use Rattle.sp_trees.proofs.LeastLemmas.{least_same, least_only, least_test}
 use Rattle.sp_syntax.specs.Spans.{AreRising, tree_spans, observed_spans, item_spans, all_spans}
@@ -33,9 +33,9 @@ use Rattle.sp_declarations.proofs.StepLemmas.{stood, nothing_refused, not_if}
 use Rattle.sp_declarations.proofs.ChainLemmas.{rising_split, place_above, later, least_then, refused_ok, refused_unless, part_place, turns_least, turns_fit}
 use Rattle.sp_checks.specs.declared.roles.Role.TheVariants as role
 use Rattle.sp_checks.specs.declared.items.Listed.{Listed}
-use Rattle.sp_checks.specs.Roles.{allowed}
+use Rattle.sp_checks.specs.Roles.{allowed_slots}
 use Rattle.sp_checks.specs.Accepted.{accepted, table_of}
-use Rattle.sp_checks.specs.Actions.{is_listed, unlisted_by, unlisted, named_by, named, variable_at, variable, observed_at, observed, begun_observe, observe, checked_cost, cost, item, nothing_listed, items}
+use Rattle.sp_checks.specs.Actions.{is_listed, unlisted_by, unlisted_place, named_by, place_of_name, variable_at, variable, observed_at, observe_entry, begun_observe, observe, checked_cost, cost, item, nothing_listed, items}
 use Rattle.sp_checks.specs.Told.{or_else, first_of, is_variable, is_sight, move_in, pair_in, sight_in, cost_in}
 use Rattle.sp_checks.specs.Standing.{IsSame, words_in, words_of, observed_in, observed_words, IsObserve, IsCost}
 use Rattle.sp_checks.proofs.TextRows.{RoleRow, TableRow, ListedRow, VariableRow, ObservedRow, ItemRow}
@@ -74,25 +74,25 @@ module _ (env : Env) (source : List ℕ) (e : IsEnv env) (made : HasMade env) (a
   unlisted_is at p true = refl
   unlisted_is at p false = refl
 
-  named_least : (words pairs : List Span) (l : Listed) (w : Span) → HasTables words pairs l → IsLeastOf (ListedRow env source words w) (refusal_of (named env source l w))
-  unfolding named
+  named_least : (words pairs : List Span) (l : Listed) (w : Span) → HasTables words pairs l → IsFirstRefusal (ListedRow env source words w) (refusal_of (place_of_name env source l w))
+  unfolding place_of_name
   named_least words pairs l w h = go (place_of env (text source w)) refl
     where
-      go : (o : Option Place) → place_of env (text source w) ≡ o → IsLeastOf (ListedRow env source words w) (refusal_of (named_by l w.start o))
+      go : (o : Option Place) → place_of env (text source w) ≡ o → IsFirstRefusal (ListedRow env source words w) (refusal_of (named_by l w.start o))
       go None q = (
         inl (q, refl),
         λ r c. elim c [ inl p ↦ at_later w.start kind.UnknownName kind.UnknownName r p.1 (omega arith) | inr p ↦ at_later w.start kind.RepeatedName kind.UnknownName r p.1 (omega arith) ],
       )
       go (Some p) q =
-          least_same (λ r. Among (IsSame source w) words × IsAt w.start kind.RepeatedName r) (ListedRow env source words w) (refusal_of (unlisted l w.start p)) (λ r c. inr c)
+          least_same (λ r. Among (IsSame source w) words × IsRefusalAt w.start kind.RepeatedName r) (ListedRow env source words w) (refusal_of (unlisted_place l w.start p)) (λ r c. inr c)
           (λ r c. elim c [ inl n ↦ absurd (some_none p (place_of env (text source w)) q n.0) | inr m ↦ m ])
-          (subst (IsLeastOf (λ r. Among (IsSame source w) words × IsAt w.start kind.RepeatedName r)) (unlisted_is w.start p (is_listed l p))
+          (subst (IsFirstRefusal (λ r. Among (IsSame source w) words × IsRefusalAt w.start kind.RepeatedName r)) (unlisted_is w.start p (is_listed l p))
           (least_test (Among (IsSame source w) words) (is_listed l p) w.start kind.RepeatedName
           (λ t. among_map (At p) (IsSame source w) words (λ v a. same_place env (text source v) (text source w) p a q) ((listed words pairs l p h).0 t))
           (λ m. (listed words pairs l p h).1 (among_map (IsSame source w) (At p) words (λ v s. ap (place_of env) s ∙ q) m))))
 
-  named_ok : (l : Listed) (w : Span) (p : Place) → named env source l w ≡ Ok p → At p w × (is_listed l p ≡ false)
-  unfolding named
+  named_ok : (l : Listed) (w : Span) (p : Place) → place_of_name env source l w ≡ Ok p → At p w × (is_listed l p ≡ false)
+  unfolding place_of_name
   named_ok l w p h = go (place_of env (text source w)) refl h
     where
       go : (o : Option Place) → place_of env (text source w) ≡ o → named_by l w.start o ≡ Ok p → At p w × (is_listed l p ≡ false)
@@ -104,13 +104,13 @@ module _ (env : Env) (source : List ℕ) (e : IsEnv env) (made : HasMade env) (a
           last false s k = subst (λ p. At p w × (is_listed l p ≡ false)) (let z : n ≡ p = cc in z) (q, s)
 
   listing_least : (words pairs : List Span) (l : Listed) (w : Span) (S : Refusal → Type 0) (then_at : Place → Result Listed Refusal) → HasTables words pairs l
-      → ((p : Place) → At p w → IsLeastOf S (refusal_of (then_at p))) → ((q : Refusal) → S q → IsAt w.start kind.BadScope q ⊎ (w.start < q.at))
-      → IsLeastOf (λ r. ListedRow env source words w r ⊎ S r) (refusal_of (named env source l w >>= then_at))
+      → ((p : Place) → At p w → IsFirstRefusal S (refusal_of (then_at p))) → ((q : Refusal) → S q → IsRefusalAt w.start kind.BadScope q ⊎ (w.start < q.at))
+      → IsFirstRefusal (λ r. ListedRow env source words w r ⊎ S r) (refusal_of (place_of_name env source l w >>= then_at))
   listing_least words pairs l w S then_at h right order =
-      least_then (ListedRow env source words w) S (named env source l w) then_at (named_least words pairs l w h) (λ p q. right p (named_ok l w p q).0)
+      least_then (ListedRow env source words w) S (place_of_name env source l w) then_at (named_least words pairs l w h) (λ p q. right p (named_ok l w p q).0)
       (λ r q a b. elim a [ inl p ↦ behind kind.UnknownName r q p.1 (omega arith) (order q b) | inr p ↦ behind kind.RepeatedName r q p.1 (omega arith) (order q b) ])
     where
-      behind : (k : ModelKind) (r q : Refusal) → IsAt w.start k r → rank k ≤ 4 → IsAt w.start kind.BadScope q ⊎ (w.start < q.at) → is_before q r ≡ false
+      behind : (k : ModelKind) (r q : Refusal) → IsRefusalAt w.start k r → rank k ≤ 4 → IsRefusalAt w.start kind.BadScope q ⊎ (w.start < q.at) → is_before q r ≡ false
       behind k r q a l (inl b) = subst (λ r. is_before q r ≡ false) (sym a) (at_later w.start kind.BadScope k q b l)
       behind k r q a l (inr b) = let m = at_place w.start k r a in later q r (omega arith)
 
@@ -119,9 +119,9 @@ module _ (env : Env) (source : List ℕ) (e : IsEnv env) (made : HasMade env) (a
   module _ (wrong right : ℕ → Place) (table_for : ℕ → Table) (same : (a b : ℕ) → right a ≡ right b → a ≡ b) (apart : (a b : ℕ) → right a ≡ wrong b → ⊥) (w : Span) (t : Tree) where
     abbrev Scoped : Refusal → Type 0
     Scoped r =
-        ((k : ℕ) × (place_of env (text source w) ≡ Some (wrong k)) × IsAt w.start kind.BadScope r) ⊎ ((k : ℕ) × (place_of env (text source w) ≡ Some (right k)) × TableRow env source action (table_for k) t r)
+        ((k : ℕ) × (place_of env (text source w) ≡ Some (wrong k)) × IsRefusalAt w.start kind.BadScope r) ⊎ ((k : ℕ) × (place_of env (text source w) ≡ Some (right k)) × TableRow env source action (table_for k) t r)
 
-    right_least : (k : ℕ) → At (right k) w → IsLeastOf Scoped (refusal_of (table_of env source action (table_for k) t))
+    right_least : (k : ℕ) → At (right k) w → IsFirstRefusal Scoped (refusal_of (table_of env source action (table_for k) t))
     right_least k h =
         least_same (TableRow env source action (table_for k) t) Scoped (refusal_of (table_of env source action (table_for k) t)) (λ r c. inr (k, h, c))
         (λ r c. elim c [
@@ -129,12 +129,12 @@ module _ (env : Env) (source : List ℕ) (e : IsEnv env) (made : HasMade env) (a
           | inr p ↦ subst (λ i. TableRow env source action (table_for i) t r) (same p.0 k (some_same (right p.0) (right k) (place_of env (text source w)) p.1 h)) p.2
         ]) (table_least env source action (table_for k) t e made)
 
-    wrong_least : (k : ℕ) → At (wrong k) w → IsLeastOf Scoped (Some (record { at = w.start; kind = kind.BadScope }))
+    wrong_least : (k : ℕ) → At (wrong k) w → IsFirstRefusal Scoped (Some (record { at = w.start; kind = kind.BadScope }))
     wrong_least k h =
         least_only Scoped (record { at = w.start; kind = kind.BadScope }) (inl (k, h, refl))
         (λ r c. elim c [ inl p ↦ p.2 | inr p ↦ absurd (apart p.0 k (some_same (right p.0) (wrong k) (place_of env (text source w)) p.1 h)) ])
 
-    scoped_order : (low high : ℕ) → w.start < low → AreRising low (tree_spans t) high → (q : Refusal) → Scoped q → IsAt w.start kind.BadScope q ⊎ (w.start < q.at)
+    scoped_order : (low high : ℕ) → w.start < low → AreRising low (tree_spans t) high → (q : Refusal) → Scoped q → IsRefusalAt w.start kind.BadScope q ⊎ (w.start < q.at)
     scoped_order low high l rise q (inl p) = inl p.2
     scoped_order low high l rise q (inr p) = inr (let m = place_above (tree_spans t) low high q.at rise (table_place env source action (table_for p.0) t q p.2) in omega arith)
 
@@ -159,7 +159,7 @@ module _ (env : Env) (source : List ℕ) (e : IsEnv env) (made : HasMade env) (a
 
   -- ---- NAME tree
 
-  variable_least : (words pairs : List Span) (l : Listed) (w : Span) (t : Tree) (low high : ℕ) → HasTables words pairs l → AreRising low (w ∷ tree_spans t) high → IsLeastOf (VariableRow env source action words w t) (refusal_of (variable env source l w t))
+  variable_least : (words pairs : List Span) (l : Listed) (w : Span) (t : Tree) (low high : ℕ) → HasTables words pairs l → AreRising low (w ∷ tree_spans t) high → IsFirstRefusal (VariableRow env source action words w t) (refusal_of (variable env source l w t))
   unfolding variable
   variable_least words pairs l w t low high h (a, b, rise) =
       listing_least words pairs l w S (λ p. variable_at env source l w t p) h go (scoped_order Sight Variable table.Move same_variable variable_apart w t w.end high b rise)
@@ -167,9 +167,9 @@ module _ (env : Env) (source : List ℕ) (e : IsEnv env) (made : HasMade env) (a
       S : Refusal → Type 0
       S = Scoped Sight Variable table.Move same_variable variable_apart w t
 
-      go : (p : Place) → At p w → IsLeastOf S (refusal_of (variable_at env source l w t p))
+      go : (p : Place) → At p w → IsFirstRefusal S (refusal_of (variable_at env source l w t p))
       go (Variable i) q =
-          subst (IsLeastOf S) (sym (refused_ok (table_of env source l.action (table.Move i) t) (λ f. record l { moves = slice_set l.moves i (Some f) }) ∙ table_same l (table.Move i) t h.number))
+          subst (IsFirstRefusal S) (sym (refused_ok (table_of env source l.action (table.Move i) t) (λ f. record l { moves = slice_set l.moves i (Some f) }) ∙ table_same l (table.Move i) t h.number))
           (right_least Sight Variable table.Move same_variable variable_apart w t i q)
       go (Sight j) q = wrong_least Sight Variable table.Move same_variable variable_apart w t j q
 
@@ -177,7 +177,7 @@ module _ (env : Env) (source : List ℕ) (e : IsEnv env) (made : HasMade env) (a
       → HasTables (words ++ w ∷ []) pairs m × HasFuncs (λ i. or_else (moves i) (move_in source env i (item_of.Variable w t))) sights m × (m.has_observe ≡ l.has_observe) × (m.cost ≡ l.cost)
   unfolding variable
   variable_next words pairs moves sights l m w t h g q =
-      let a = stood (named env source l w) (λ p. variable_at env source l w t p) m q in let n = named_ok l w a.value a.was in go a.value n.0 n.1 a.then
+      let a = stood (place_of_name env source l w) (λ p. variable_at env source l w t p) m q in let n = named_ok l w a.value a.was in go a.value n.0 n.1 a.then
     where
       go : (p : Place) → At p w → is_listed l p ≡ false → variable_at env source l w t p ≡ Ok m
           → HasTables (words ++ w ∷ []) pairs m × HasFuncs (λ i. or_else (moves i) (move_in source env i (item_of.Variable w t))) sights m × (m.has_observe ≡ l.has_observe) × (m.cost ≡ l.cost)
@@ -209,25 +209,25 @@ module _ (env : Env) (source : List ℕ) (e : IsEnv env) (made : HasMade env) (a
   -- ---- observe
 
   observed_least : (words : List Span) (before : List Observed) (pairs : List Span) (l : Listed) (o : Observed) (low high : ℕ) → HasTables (words ++ map (λ o. o.name) before) pairs l → AreRising low (observed_spans o) high
-      → IsLeastOf (ObservedRow env source action words before o) (refusal_of (observed env source l o))
-  unfolding observed
+      → IsFirstRefusal (ObservedRow env source action words before o) (refusal_of (observe_entry env source l o))
+  unfolding observe_entry
   observed_least words before pairs l o low high h (a, b, rise) =
       listing_least (words ++ map (λ o. o.name) before) pairs l o.name S (λ p. observed_at env source l o p) h go (scoped_order Variable Sight table.Sight same_sight sight_apart o.name o.tree o.name.end high b rise)
     where
       S : Refusal → Type 0
       S = Scoped Variable Sight table.Sight same_sight sight_apart o.name o.tree
 
-      go : (p : Place) → At p o.name → IsLeastOf S (refusal_of (observed_at env source l o p))
+      go : (p : Place) → At p o.name → IsFirstRefusal S (refusal_of (observed_at env source l o p))
       go (Variable i) q = wrong_least Variable Sight table.Sight same_sight sight_apart o.name o.tree i q
       go (Sight j) q =
-          subst (IsLeastOf S) (sym (refused_ok (table_of env source l.action (table.Sight j) o.tree) (λ f. record l { sights = slice_set l.sights j (Some f) }) ∙ table_same l (table.Sight j) o.tree h.number))
+          subst (IsFirstRefusal S) (sym (refused_ok (table_of env source l.action (table.Sight j) o.tree) (λ f. record l { sights = slice_set l.sights j (Some f) }) ∙ table_same l (table.Sight j) o.tree h.number))
           (right_least Variable Sight table.Sight same_sight sight_apart o.name o.tree j q)
 
-  observed_next : (words pairs : List Span) (moves sights : ℕ → Option Func) (l m : Listed) (o : Observed) → HasTables words pairs l → HasFuncs moves sights l → observed env source l o ≡ Ok m
+  observed_next : (words pairs : List Span) (moves sights : ℕ → Option Func) (l m : Listed) (o : Observed) → HasTables words pairs l → HasFuncs moves sights l → observe_entry env source l o ≡ Ok m
       → HasTables (words ++ o.name ∷ []) (pairs ++ o.name ∷ []) m × HasFuncs moves (λ j. or_else (sights j) (pair_in source env j o)) m × (m.has_observe ≡ l.has_observe) × (m.cost ≡ l.cost)
-  unfolding observed
+  unfolding observe_entry
   observed_next words pairs moves sights l m o h g q =
-      let a = stood (named env source l o.name) (λ p. observed_at env source l o p) m q in let n = named_ok l o.name a.value a.was in go a.value n.0 n.1 a.then
+      let a = stood (place_of_name env source l o.name) (λ p. observed_at env source l o p) m q in let n = named_ok l o.name a.value a.was in go a.value n.0 n.1 a.then
     where
       w : Span
       w = o.name
@@ -268,10 +268,10 @@ module _ (env : Env) (source : List ℕ) (e : IsEnv env) (made : HasMade env) (a
       begun : l.has_observe ≡ true
       cost : l.cost ≡ worth
 
-    pair_right : (before : List Observed) (l : Listed) (o : Observed) (low high : ℕ) → HasPairs before l → AreRising low (observed_spans o) high → IsLeastOf (ObservedRow env source action words before o) (refusal_of (observed env source l o))
+    pair_right : (before : List Observed) (l : Listed) (o : Observed) (low high : ℕ) → HasPairs before l → AreRising low (observed_spans o) high → IsFirstRefusal (ObservedRow env source action words before o) (refusal_of (observe_entry env source l o))
     pair_right before l o low high h rise = observed_least words before (pairs ++ map (λ o. o.name) before) l o low high h.tables rise
 
-    pair_next : (before : List Observed) (l m : Listed) (o : Observed) → HasPairs before l → observed env source l o ≡ Ok m → HasPairs (before ++ o ∷ []) m
+    pair_next : (before : List Observed) (l m : Listed) (o : Observed) → HasPairs before l → observe_entry env source l o ≡ Ok m → HasPairs (before ++ o ∷ []) m
     pair_next before l m o h q =
         let n = observed_next (words ++ names) (pairs ++ names) moves (λ j. or_else (sights j) (first_of (pair_in source env j) before)) l m o h.tables h.funcs q in record {
           tables =
@@ -309,14 +309,14 @@ module _ (env : Env) (source : List ℕ) (e : IsEnv env) (made : HasMade env) (a
 
     pairs_least : (l : Listed) (keyword : Span) (list : List Observed) (low high : ℕ) → HasTables words pairs l → HasFuncs moves sights l → l.cost ≡ worth → (P : Type 0) → (l.has_observe ≡ true → P) → (P → l.has_observe ≡ true)
         → keyword.start < low → AreRising low (all_spans observed_spans list) high
-        → IsLeastOf (λ r. (P × IsAt keyword.start kind.RepeatedName r) ⊎ PartRow (ObservedRow env source action words) [] list r) (refusal_of (observe env source l keyword list))
+        → IsFirstRefusal (λ r. (P × IsRefusalAt keyword.start kind.RepeatedName r) ⊎ PartRow (ObservedRow env source action words) [] list r) (refusal_of (observe env source l keyword list))
     unfolding observe begun_observe
     pairs_least l keyword list low high h g c P to back first rise =
         let o = refused_if l.has_observe keyword.start kind.RepeatedName in
-        let R : Refusal → Type 0 = λ r. P × IsAt keyword.start kind.RepeatedName r in
-        least_then R (PartRow (ObservedRow env source action words) [] list) (begun_observe l keyword.start) (λ m. in_turn (observed env source) m list)
-        (subst (IsLeastOf R) (sym (refused_ok (unless_refused o) (λ u. record l { has_observe = true }) ∙ refused_unless o)) (least_test P l.has_observe keyword.start kind.RepeatedName to back))
-        (λ m q. turns_least (observed env source) (ObservedRow env source action words) observed_spans HasPairs pair_right pair_next pair_place [] m list low high (begun_pairs l m keyword.start h g c q) rise)
+        let R : Refusal → Type 0 = λ r. P × IsRefusalAt keyword.start kind.RepeatedName r in
+        least_then R (PartRow (ObservedRow env source action words) [] list) (begun_observe l keyword.start) (λ m. in_turn (observe_entry env source) m list)
+        (subst (IsFirstRefusal R) (sym (refused_ok (unless_refused o) (λ u. record l { has_observe = true }) ∙ refused_unless o)) (least_test P l.has_observe keyword.start kind.RepeatedName to back))
+        (λ m q. turns_least (observe_entry env source) (ObservedRow env source action words) observed_spans HasPairs pair_right pair_next pair_place [] m list low high (begun_pairs l m keyword.start h g c q) rise)
         (λ r q a b.
         let m = at_place keyword.start kind.RepeatedName r a.1 in
         let n = place_above (all_spans observed_spans list) low high q.at rise (part_place (ObservedRow env source action words) observed_spans pair_place [] list q b) in
@@ -325,8 +325,8 @@ module _ (env : Env) (source : List ℕ) (e : IsEnv env) (made : HasMade env) (a
     pairs_fit : (l m : Listed) (keyword : Span) (list : List Observed) → HasTables words pairs l → HasFuncs moves sights l → l.cost ≡ worth → observe env source l keyword list ≡ Ok m → HasPairs list m
     unfolding observe
     pairs_fit l m keyword list h g c q =
-        let a = stood (begun_observe l keyword.start) (λ m. in_turn (observed env source) m list) m q in
-        turns_fit (observed env source) (ObservedRow env source action words) observed_spans HasPairs pair_right pair_next pair_place [] a.value m list (begun_pairs l a.value keyword.start h g c a.was) a.then
+        let a = stood (begun_observe l keyword.start) (λ m. in_turn (observe_entry env source) m list) m q in
+        turns_fit (observe_entry env source) (ObservedRow env source action words) observed_spans HasPairs pair_right pair_next pair_place [] a.value m list (begun_pairs l a.value keyword.start h g c a.was) a.then
 
   -- ---- items
 
@@ -351,13 +351,13 @@ module _ (env : Env) (source : List ℕ) (e : IsEnv env) (made : HasMade env) (a
   nothing_more give before x o none h = h ∙ sym (or_else_none (first_of give before)) ∙ ap (or_else (first_of give before)) (sym none) ∙ sym (first_more give before x)
 
   cost_least : (before : List Item) (l : Listed) (keyword : Span) (t : Tree) (low high : ℕ) → HasItems before l → AreRising low (keyword ∷ tree_spans t) high
-      → IsLeastOf (ItemRow env source action before (item_of.Cost keyword t)) (refusal_of (cost env source l keyword t))
+      → IsFirstRefusal (ItemRow env source action before (item_of.Cost keyword t)) (refusal_of (cost env source l keyword t))
   unfolding cost
   cost_least before l keyword t low high h (a, b, rise) =
       once_then (Among IsCost before) (is_some l.cost) keyword.start keyword.end high (tree_spans t) (RoleRow env source role.Reward t) (accepted env source role.Reward t) _ h.cost.0 h.cost.1 b rise
-      (λ r k. row_place env source (allowed env.scope role.Reward) t r k) (role_least env source role.Reward t e) (λ a. refl)
+      (λ r k. row_place env source (allowed_slots env.scope role.Reward) t r k) (role_least env source role.Reward t e) (λ a. refl)
 
-  item_right : (before : List Item) (l : Listed) (x : Item) (low high : ℕ) → HasItems before l → AreRising low (item_spans x) high → IsLeastOf (ItemRow env source action before x) (refusal_of (item env source l x))
+  item_right : (before : List Item) (l : Listed) (x : Item) (low high : ℕ) → HasItems before l → AreRising low (item_spans x) high → IsFirstRefusal (ItemRow env source action before x) (refusal_of (item env source l x))
   item_right before l (item_of.Variable name t) low high h rise = variable_least (words_of before) (observed_words before) l name t low high h.tables rise
   item_right before l (item_of.Observe keyword list end) low high h (a, b, rise) =
       let cut = rising_split (all_spans observed_spans list) (end ∷ []) keyword.end high rise in
@@ -444,7 +444,7 @@ module _ (env : Env) (source : List ℕ) (e : IsEnv env) (made : HasMade env) (a
   place_in : (before : List Item) (x : Item) (r : Refusal) → ItemRow env source action before x r → HasPlace (item_spans x) r.at
   place_in before x r h = item_place env source action before x r h
 
-  pub items_least : (list : List Item) (low high : ℕ) → AreRising low (all_spans item_spans list) high → IsLeastOf (PartRow (ItemRow env source action) [] list) (refusal_of (items env source action list))
+  pub items_least : (list : List Item) (low high : ℕ) → AreRising low (all_spans item_spans list) high → IsFirstRefusal (PartRow (ItemRow env source action) [] list) (refusal_of (items env source action list))
   unfolding items
   items_least list low high rise = turns_least (item env source) (ItemRow env source action) item_spans HasItems item_right item_next place_in [] (nothing_listed env action) list low high nothing_items rise
 

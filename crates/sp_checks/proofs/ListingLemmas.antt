@@ -10,7 +10,7 @@ use Rattle.sp_syntax.specs.declared.text.Tree.{Tree}
 use Rattle.sp_syntax.specs.declared.text.Observed.{Observed}
 use Rattle.sp_syntax.specs.declared.text.Item.{Item}
 use Rattle.sp_syntax.specs.declared.text.Item.TheVariants as item_of
-use Rattle.sp_model.specs.Kept.{IsMove, IsSight}
+use Rattle.sp_model.specs.Kept.{IsTransitionTable, IsSight}
 use Rattle.sp_trees.specs.declared.env.Env.{Env}
 use Rattle.sp_trees.specs.declared.nodes.Place.{Place}
 use Rattle.sp_trees.specs.declared.nodes.Place.TheVariants.{Variable, Sight}
@@ -25,7 +25,7 @@ use Rattle.sp_declarations.specs.Steps.{◌>>=◌, unless_refused}
 use Rattle.sp_checks.specs.declared.roles.Role.TheVariants as role
 use Rattle.sp_checks.specs.declared.items.Listed.{Listed}
 use Rattle.sp_checks.specs.Accepted.{accepted}
-use Rattle.sp_checks.specs.Actions.{is_listed, unlisted_by, named_by, named, variable_at, variable, observed_at, observed, begun_observe, observe, checked_cost, cost, item, nothing_listed, items}
+use Rattle.sp_checks.specs.Actions.{is_listed, unlisted_by, named_by, place_of_name, variable_at, variable, observed_at, observe_entry, begun_observe, observe, checked_cost, cost, item, nothing_listed, items}
 use Rattle.sp_checks.specs.Kept.{IsFitEnv, IsListing}
 use Rattle.sp_declarations.proofs.StepLemmas.{stood, turns_keep}
 use Rattle.sp_checks.proofs.TableLemmas.{table_move, table_sight, worth_kept}
@@ -48,8 +48,8 @@ place_within env name = go (number_of_decl env.variables name) (number_of_decl e
     go None None e f = tt
 
 module _ (env : Env) (source : List ℕ) (fit : IsFitEnv env) where
-  named_place : (l : Listed) (word : Span) (p : Place) → named env source l word ≡ Ok p → IsPlace env p
-  unfolding named
+  named_place : (l : Listed) (word : Span) (p : Place) → place_of_name env source l word ≡ Ok p → IsPlace env p
+  unfolding place_of_name
   named_place l word p h = go (place_of env (text source word)) (place_within env (text source word)) h
     where
       go : (o : Option Place) → IfSome o (IsPlace env) → named_by l word.start o ≡ Ok p → IsPlace env p
@@ -71,14 +71,14 @@ module _ (env : Env) (source : List ℕ) (fit : IsFitEnv env) where
           (record {
             moves_count = length-set l.moves i (Some b.value) ∙ k.moves_count;
             sights_count = k.sights_count;
-            moves = put_keeps (IsMove env.scope) l.moves i b.value k.moves (subst (λ (n : ℕ). i < n) (sym k.moves_count) w) (table_move env source l.action t b.value fit i w b.was);
+            moves = put_keeps (IsTransitionTable env.scope) l.moves i b.value k.moves (subst (λ (n : ℕ). i < n) (sym k.moves_count) w) (table_move env source l.action t b.value fit i w b.was);
             sights = k.sights;
             cost = k.cost;
           })
       go (Sight j) w h = cc
 
-  pub observed_keeps : (l m : Listed) (o : Observed) → IsListing env l → observed env source l o ≡ Ok m → IsListing env m
-  unfolding observed
+  pub observed_keeps : (l m : Listed) (o : Observed) → IsListing env l → observe_entry env source l o ≡ Ok m → IsListing env m
+  unfolding observe_entry
   observed_keeps l m o k h = let a = stood _ _ _ h in go a.value (named_place l o.name a.value a.was) a.then
     where
       go : (p : Place) → IsPlace env p → observed_at env source l o p ≡ Ok m → IsListing env m
@@ -99,7 +99,7 @@ module _ (env : Env) (source : List ℕ) (fit : IsFitEnv env) where
   observe_keeps l m keyword list k h =
       let a = stood _ _ _ h in
       let b = stood (unless_refused (refused_if l.has_observe keyword.start kind.RepeatedName)) (λ u. Ok (record l { has_observe = true })) a.value a.was in
-      turns_keep (observed env source) (IsListing env) (λ o. Unit {0}) (λ l o m k q h. observed_keeps l m o k h) list a.value m (λ i d l. tt)
+      turns_keep (observe_entry env source) (IsListing env) (λ o. Unit {0}) (λ l o m k q h. observed_keeps l m o k h) list a.value m (λ i d l. tt)
       (subst (IsListing env) (let e : record l { has_observe = true } ≡ a.value = cc (b.then) in e)
       (record { moves_count = k.moves_count; sights_count = k.sights_count; moves = k.moves; sights = k.sights; cost = k.cost })) a.then
 

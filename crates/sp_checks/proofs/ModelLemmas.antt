@@ -17,7 +17,7 @@ use Rattle.sp_declarations.specs.Steps.{unless_refused, in_turn}
 use Rattle.sp_checks.specs.declared.state.Draft.{Draft}
 use Rattle.sp_checks.specs.declared.state.State.{State}
 use Rattle.sp_checks.specs.Finish.{or_zero, reward_of, checked_reward, action_part, action_step, actions, parts, finish_by, finish}
-use Rattle.sp_checks.specs.Kept.{IsDraft, IsState, IsWorth, AreFactors}
+use Rattle.sp_checks.specs.Kept.{IsActionDraft, IsReadingState, IsRewardFunction, AreFactors}
 use Rattle.sp_declarations.proofs.StepLemmas.{stood, all_more}
 
 -- zero is a reward
@@ -31,7 +31,7 @@ pub or_zero_fit : (s : Shape) (o : Option Func) → IsScope s → IfSome o (IsFi
 or_zero_fit s None scope h = zero_fit s scope
 or_zero_fit s (Some f) scope h = h
 
-or_zero_worth : (s : Shape) (o : Option Func) → IsScope s → IfSome o (IsWorth s) → IsWorth s (or_zero s o)
+or_zero_worth : (s : Shape) (o : Option Func) → IsScope s → IfSome o (IsRewardFunction s) → IsRewardFunction s (or_zero s o)
 or_zero_worth s None scope h = record { fit = zero_fit s scope; not_seen = λ j b. zero_free s (2 * s.variables + j) scope b }
 or_zero_worth s (Some f) scope h = h
 
@@ -39,8 +39,8 @@ is_within : (b : Bool) (end : ℕ) → unless_refused (refused_if (not b) end ki
 is_within true end h = refl
 is_within false end h = cc
 
-module _ (s : Shape) (end : ℕ) (reward : Func) (scope : IsScope s) (worth : IsWorth s reward) where
-  reward_kept : (d : Draft) (f : Func) → IsDraft s d → checked_reward s end reward d ≡ Ok f → IsReward s f
+module _ (s : Shape) (end : ℕ) (reward : Func) (scope : IsScope s) (worth : IsRewardFunction s reward) where
+  reward_kept : (d : Draft) (f : Func) → IsActionDraft s d → checked_reward s end reward d ≡ Ok f → IsReward s f
   unfolding checked_reward
   reward_kept d f k h =
       let a = stood _ _ _ h in
@@ -56,7 +56,7 @@ module _ (s : Shape) (end : ℕ) (reward : Func) (scope : IsScope s) (worth : Is
         not_seen = λ j b. less_free reward g (2 * s.variables + j) here shapes (subst (λ (t : Shape). 2 * s.variables + j < length t.sizes) (sym shape) b) (worth.not_seen j b) (cost.not_seen j b);
       })
 
-  part_kept : (d : Draft) (a : ActionPart) → IsDraft s d → action_part s end reward d ≡ Ok a → IsAction s a
+  part_kept : (d : Draft) (a : ActionPart) → IsActionDraft s d → action_part s end reward d ≡ Ok a → IsAction s a
   unfolding action_part
   part_kept d a k h =
       let r = stood _ _ _ h in
@@ -67,7 +67,7 @@ module _ (s : Shape) (end : ℕ) (reward : Func) (scope : IsScope s) (worth : Is
   unfolding action_part
   part_name d a h = let r = stood (checked_reward s end reward d) (λ r. Ok (record { name = d.name; reward = r; moves = d.moves; sight = d.sights })) a h in ap (λ (a : ActionPart). a.name) (let e : a ≡ record { name = d.name; reward = r.value; moves = d.moves; sight = d.sights } = cc (r.then) in e)
 
-  step_is : (done : List ActionPart) (d : Draft) (q : List ActionPart) → IsDraft s d → All (IsAction s) done → action_step s end reward done d ≡ Ok q → All (IsAction s) q × (map (λ a. a.name) q ≡ map (λ a. a.name) done ++ d.name ∷ [])
+  step_is : (done : List ActionPart) (d : Draft) (q : List ActionPart) → IsActionDraft s d → All (IsAction s) done → action_step s end reward done d ≡ Ok q → All (IsAction s) q × (map (λ a. a.name) q ≡ map (λ a. a.name) done ++ d.name ∷ [])
   unfolding action_step
   step_is done d q k h e =
       let a = stood _ _ _ e in
@@ -76,7 +76,7 @@ module _ (s : Shape) (end : ℕ) (reward : Func) (scope : IsScope s) (worth : Is
         ap (map (λ (a : ActionPart). a.name)) (sym same) ∙ map-append (λ (a : ActionPart). a.name) done (a.value ∷ []) ∙ ap (λ n. map (λ (a : ActionPart). a.name) done ++ n ∷ []) (part_name d a.value a.was),
       )
 
-  turns_are : (ds : List Draft) (done q : List ActionPart) → All (IsDraft s) ds → All (IsAction s) done → in_turn (action_step s end reward) done ds ≡ Ok q → All (IsAction s) q × (map (λ a. a.name) q ≡ map (λ a. a.name) done ++ map (λ d. d.name) ds)
+  turns_are : (ds : List Draft) (done q : List ActionPart) → All (IsActionDraft s) ds → All (IsAction s) done → in_turn (action_step s end reward) done ds ≡ Ok q → All (IsAction s) q × (map (λ a. a.name) q ≡ map (λ a. a.name) done ++ map (λ d. d.name) ds)
   unfolding in_turn
   turns_are [] done q k h e =
       let same : done ≡ q = cc in (subst (All (IsAction s)) same h, ap (map (λ (a : ActionPart). a.name)) (sym same) ∙ sym (append-nil (map (λ (a : ActionPart). a.name) done)))
@@ -86,15 +86,15 @@ module _ (s : Shape) (end : ℕ) (reward : Func) (scope : IsScope s) (worth : Is
       let more = turns_are ds a.value q (λ i x l. k (suc i) x (omega arith)) one.0 a.then in
       (more.0, more.1 ∙ ap (λ xs. xs ++ map (λ (d : Draft). d.name) ds) one.1 ∙ append_assoc (map (λ (a : ActionPart). a.name) done) (d.name ∷ []) (map (λ (d : Draft). d.name) ds))
 
-  pub actions_are : (ds : List Draft) (q : List ActionPart) → All (IsDraft s) ds → actions s end reward ds ≡ Ok q → All (IsAction s) q × (map (λ a. a.name) q ≡ map (λ d. d.name) ds)
+  pub actions_are : (ds : List Draft) (q : List ActionPart) → All (IsActionDraft s) ds → actions s end reward ds ≡ Ok q → All (IsAction s) q × (map (λ a. a.name) q ≡ map (λ d. d.name) ds)
   unfolding actions
   actions_are ds q k h = turns_are ds [] q k (λ i d l. absurd (omega arith)) h
 
-pub finish_model : (s : State) (end : ℕ) (p : Parts) → IsState s → finish s end ≡ Ok p → IsModel p
+pub finish_model : (s : State) (end : ℕ) (p : Parts) → IsReadingState s → finish s end ≡ Ok p → IsModel p
 unfolding finish parts
 finish_model s end p k h = go s.init s.discount s.actions k.init k.discount k.actions k.few k.names h
   where
-    go : (i : Option (List Factor)) (g : Option ℕ) (ds : List Draft) → IfSome i (AreFactors s.env.scope) → IfSome g (λ g. g ≤ 999000000) → All (IsDraft s.env.scope) ds → length ds ≤ 256 → s.names ≡ map (λ d. d.name) ds
+    go : (i : Option (List Factor)) (g : Option ℕ) (ds : List Draft) → IfSome i (AreFactors s.env.scope) → IfSome g (λ g. g ≤ 999000000) → All (IsActionDraft s.env.scope) ds → length ds ≤ 256 → s.names ≡ map (λ d. d.name) ds
         → finish_by s end i g ds ≡ Ok p → IsModel p
     go None g ds ki kg kd few names h = cc
     go (Some i) None ds ki kg kd few names h = cc

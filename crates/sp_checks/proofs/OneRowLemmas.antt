@@ -34,11 +34,11 @@ use Rattle.sp_trees.specs.declared.nodes.Place.TheVariants.{Variable, Sight}
 use Rattle.sp_trees.specs.Refusals.{rank}
 use Rattle.sp_trees.specs.Single.{number_kind as tree_kind}
 use Rattle.sp_trees.specs.Words.{text, name_span}
-use Rattle.sp_trees.specs.Dds.{found}
+use Rattle.sp_trees.specs.Dds.{dd_of_name}
 use Rattle.sp_trees.specs.Nodes.{place_of, values_of}
 use Rattle.sp_trees.specs.Values.{tree_value}
 use Rattle.sp_trees.specs.Conditions.{HasOutside}
-use Rattle.sp_trees.specs.Rows.{IsLeastOf, Among, IsAt, BranchRows, NodeRowBy, ReferenceRow, WordRow, ValueRow, TreeRow}
+use Rattle.sp_trees.specs.Rows.{IsFirstRefusal, Among, IsRefusalAt, BranchRows, NodeRowBy, ReferenceRow, TreeWordRow, ValueRow, TreeRow}
 use Rattle.sp_trees.specs.Told.{func_of, mentions_of}
 use Rattle.sp_trees.proofs.ListPlaces.{sum_kind, product_kind}
 use Rattle.sp_declarations.specs.Rows.{PartRow, HasPlace, LimitRow, NameRow, DeclarationRow, DeclaredRow}
@@ -47,7 +47,7 @@ use Rattle.sp_declarations.proofs.ChainLemmas.{has_left, has_right, rising_split
 use Rattle.sp_declarations.proofs.RowLemmas.{declared_place}
 use Rattle.sp_checks.specs.declared.roles.Role.{Role}
 use Rattle.sp_checks.specs.declared.roles.Role.TheVariants as role
-use Rattle.sp_checks.specs.Roles.{start_of, allowed}
+use Rattle.sp_checks.specs.Roles.{start_of, allowed_slots}
 use Rattle.sp_checks.specs.Sections.{number_kind}
 use Rattle.sp_checks.specs.Initial.{factor_trees, own_of}
 use Rattle.sp_checks.specs.Accepted.{variable_number}
@@ -57,7 +57,7 @@ use Rattle.sp_checks.specs.RefusalTable.{IsUnobserved}
 use Rattle.sp_checks.proofs.TextRows.{RoleRow, HasNoRow, TableValueRow, TableRow, ListedRow, VariableRow, ObservedRow, ItemRow, ActionRow, FactorRow, InitRow, NumberRow, SectionRow, EndRow, TextRow}
 use Rattle.sp_lex.proofs.Unique.{cut_alone}
 use Rattle.sp_syntax.proofs.SpanLemmas.{spans_rise}
-use Rattle.sp_checks.specs.Answers.{OneRefusal}
+use Rattle.sp_checks.specs.Answers.{OneRefusalOfText}
 use Rattle.sp_checks.proofs.AmongLemmas.{at_place}
 use Rattle.sp_checks.proofs.PlaceNames.{some_same}
 use Rattle.sp_checks.proofs.RefusalLemmas.{part_least}
@@ -113,7 +113,7 @@ same_plain r q h at e =
     let k : r.kind ≡ q.kind = sym (by_rank r.kind h) ∙ ap kind_at e ∙ by_rank q.kind (subst (λ n. (n < 9) ⊎ ((11 ≤ n) × (n ≤ 12))) e h) in
     (λ i. record { at = at i; kind = k i })
 
-plain_at : (at : ℕ) (k : ModelKind) (r : Refusal) → IsPlain k → IsAt at k r → IsPlain r.kind
+plain_at : (at : ℕ) (k : ModelKind) (r : Refusal) → IsPlain k → IsRefusalAt at k r → IsPlain r.kind
 plain_at at k r h e = subst (λ (q : Refusal). IsPlain q.kind) (sym e) h
 
 -- rows that give one refusal
@@ -149,20 +149,20 @@ one_parts Row spans place one before (x ∷ xs) low high rise =
 
 -- ---- the rows of a tree are plain
 
-module _ (env : Env) (source : List ℕ) (allowed : Slots) where
+module _ (env : Env) (source : List ℕ) (allowed_slots : Slots) where
   branches_plain : (values : List (List ℕ)) (before bs : List Branch) → ArePlain (BranchRows source values before bs)
   branches_plain values before [] r h = absurd h
   branches_plain values before (b ∷ bs) r (inl (inl h)) = plain_at _ kind.UnknownName r (inl (omega arith)) h.1
   branches_plain values before (b ∷ bs) r (inl (inr h)) = plain_at _ kind.RepeatedName r (inl (omega arith)) h.3
   branches_plain values before (b ∷ bs) r (inr h) = branches_plain values (before ++ b ∷ []) bs r h
 
-  node_plain : (is_primed : Bool) (left word : Span) (bs : List Branch) (o : Option Place) → ArePlain (NodeRowBy env source allowed is_primed left word bs o)
+  node_plain : (is_primed : Bool) (left word : Span) (bs : List Branch) (o : Option Place) → ArePlain (NodeRowBy env source allowed_slots is_primed left word bs o)
   node_plain is_primed left word bs None r h = plain_at _ kind.UnknownName r (inl (omega arith)) h
   node_plain is_primed left word bs (Some p) r (inl h) = plain_at _ kind.BadScope r (inl (omega arith)) h.1
   node_plain is_primed left word bs (Some p) r (inr (inl h)) = plain_at _ kind.MissingValue r (inl (omega arith)) h.at_bracket
   node_plain is_primed left word bs (Some p) r (inr (inr h)) = branches_plain (values_of env p) [] bs r h
 
-  reference_plain : (at : ℕ) (o : Option Dd) → ArePlain (ReferenceRow allowed at o)
+  reference_plain : (at : ℕ) (o : Option Dd) → ArePlain (ReferenceRow allowed_slots at o)
   reference_plain at None r h = plain_at _ kind.UnknownName r (inl (omega arith)) h
   reference_plain at (Some d) r h = plain_at _ kind.BadScope r (inl (omega arith)) h.1
 
@@ -171,9 +171,9 @@ module _ (env : Env) (source : List ℕ) (allowed : Slots) where
   tree_number fault.TooFine = inl (omega arith)
   tree_number fault.TooLarge = inl (omega arith)
 
-  word_plain : (x : Tree-F Tree Branch) → ArePlain (WordRow env source allowed x)
+  word_plain : (x : Tree-F Tree Branch) → ArePlain (TreeWordRow env source allowed_slots x)
   word_plain (Tree-F.Number left word right) r h = plain_at _ (tree_kind h.0) r (tree_number h.0) h.2
-  word_plain (Tree-F.Reference left word right) r h = reference_plain word.start (found (text source word) env.dds) r h
+  word_plain (Tree-F.Reference left word right) r h = reference_plain word.start (dd_of_name (text source word) env.dds) r h
   word_plain (Tree-F.Node left word bs right) r h = node_plain false left word bs (place_of env (text source (name_span false word))) r h
   word_plain (Tree-F.PrimedNode left word bs right) r h = node_plain true left word bs (place_of env (text source (name_span true word))) r h
   word_plain (Tree-F.Sum left plus ts right) r h = absurd h
@@ -188,21 +188,21 @@ module _ (env : Env) (source : List ℕ) (allowed : Slots) where
   value_plain (Tree-F.Product left star ts right) r h = of_list r (product_kind env.scope left.start (map (tree_value env source) ts) r h)
   value_plain _ r h = absurd h
 
-  tree_plain : (t : Tree) → ArePlain (TreeRow env source allowed t)
+  tree_plain : (t : Tree) → ArePlain (TreeRow env source allowed_slots t)
   tree_plain t r (u, i, inl h) = word_plain (out-Tree u) r h
   tree_plain t r (u, i, inr h) = value_plain (out-Tree u) r h.0
 
 role_plain : (env : Env) (source : List ℕ) (for : Role) (t : Tree) → ArePlain (RoleRow env source for t)
-role_plain env source for t r h = tree_plain env source (allowed env.scope for) t r h
+role_plain env source for t r h = tree_plain env source (allowed_slots env.scope for) t r h
 
 -- ---- declarations
 
-one_value : (source : List ℕ) (before : List Span) (w : Span) → IsOne (declared.WordRow source before w)
+one_value : (source : List ℕ) (before : List Span) (w : Span) → IsOne (declared.DeclarationWordRow source before w)
 one_value source before w =
-    one_plain (λ r. Among (λ v. text source v ≡ text source w) before × IsAt w.start kind.RepeatedName r) (λ r. (length before ≡ 64) × IsAt w.start (kind.TooMany 64) r) (λ r h. plain_at _ kind.RepeatedName r (inl (omega arith)) h.1)
-    (all_same (λ r. (length before ≡ 64) × IsAt w.start (kind.TooMany 64) r) (record { at = w.start; kind = kind.TooMany 64 }) (λ r h. h.1))
+    one_plain (λ r. Among (λ v. text source v ≡ text source w) before × IsRefusalAt w.start kind.RepeatedName r) (λ r. (length before ≡ 64) × IsRefusalAt w.start (kind.TooMany 64) r) (λ r h. plain_at _ kind.RepeatedName r (inl (omega arith)) h.1)
+    (all_same (λ r. (length before ≡ 64) × IsRefusalAt w.start (kind.TooMany 64) r) (record { at = w.start; kind = kind.TooMany 64 }) (λ r h. h.1))
 
-value_place : (source : List ℕ) (before : List Span) (w : Span) (r : Refusal) → declared.WordRow source before w r → HasPlace (w ∷ []) r.at
+value_place : (source : List ℕ) (before : List Span) (w : Span) (r : Refusal) → declared.DeclarationWordRow source before w r → HasPlace (w ∷ []) r.at
 value_place source before w r (inl h) = inl (sym (at_place w.start kind.RepeatedName r h.1))
 value_place source before w r (inr h) = inl (sym (at_place w.start (kind.TooMany 64) r h.1))
 
@@ -210,8 +210,8 @@ singles : (ws : List Span) → all_spans (λ w. w ∷ []) ws ≡ ws
 singles [] = refl
 singles (w ∷ ws) = ap (λ vs. w ∷ vs) (singles ws)
 
-values_place : (source : List ℕ) (ws : List Span) (r : Refusal) → PartRow (declared.WordRow source) [] ws r → HasPlace ws r.at
-values_place source ws r h = subst (λ ss. HasPlace ss r.at) (singles ws) (part_place (declared.WordRow source) (λ w. w ∷ []) (value_place source) [] ws r h)
+values_place : (source : List ℕ) (ws : List Span) (r : Refusal) → PartRow (declared.DeclarationWordRow source) [] ws r → HasPlace ws r.at
+values_place source ws r h = subst (λ ss. HasPlace ss r.at) (singles ws) (part_place (declared.DeclarationWordRow source) (λ w. w ∷ []) (value_place source) [] ws r h)
 
 one_limit : (most points : ℕ) (before : List Declaration) (d : Declaration) → IsOne (LimitRow most points before d)
 one_limit most points before d r q (inl a) (inl b) at e = a.1 ∙ sym b.1
@@ -224,7 +224,7 @@ limit_place most points before d r (inl h) = at_place d.left.start (kind.TooMany
 limit_place most points before d r (inr h) = at_place d.left.start (kind.TooMany points) r h.3
 
 module _ (source : List ℕ) (most points : ℕ) (others : List Declaration) where
-  named_place : (before : List Declaration) (d : Declaration) (r : Refusal) → NameRow source others before d r ⊎ PartRow (declared.WordRow source) [] d.values r → HasPlace (d.name ∷ (d.values ++ d.right ∷ [])) r.at
+  named_place : (before : List Declaration) (d : Declaration) (r : Refusal) → NameRow source others before d r ⊎ PartRow (declared.DeclarationWordRow source) [] d.values r → HasPlace (d.name ∷ (d.values ++ d.right ∷ [])) r.at
   named_place before d r (inl h) = inl (sym (at_place d.name.start kind.RepeatedName r h.1))
   named_place before d r (inr h) = inr (has_left d.values (d.right ∷ []) r.at (values_place source d.values r h))
 
@@ -236,9 +236,9 @@ module _ (source : List ℕ) (most points : ℕ) (others : List Declaration) whe
   one_declaration before d low high (a, b, rise) =
       let c = rise.2 in
       let cut = rising_split d.values (d.right ∷ []) d.name.end high c in
-      one_apart (LimitRow most points before d) (λ r. NameRow source others before d r ⊎ PartRow (declared.WordRow source) [] d.values r) (one_limit most points before d)
-      (one_plain (NameRow source others before d) (PartRow (declared.WordRow source) [] d.values) (λ r h. plain_at _ kind.RepeatedName r (inl (omega arith)) h.1)
-      (one_parts (declared.WordRow source) (λ w. w ∷ []) (value_place source) (λ before w low high rise. one_value source before w) [] d.values d.name.end cut.0 (subst (λ ss. AreRising d.name.end ss cut.0) (sym (singles d.values)) cut.1)))
+      one_apart (LimitRow most points before d) (λ r. NameRow source others before d r ⊎ PartRow (declared.DeclarationWordRow source) [] d.values r) (one_limit most points before d)
+      (one_plain (NameRow source others before d) (PartRow (declared.DeclarationWordRow source) [] d.values) (λ r h. plain_at _ kind.RepeatedName r (inl (omega arith)) h.1)
+      (one_parts (declared.DeclarationWordRow source) (λ w. w ∷ []) (value_place source) (λ before w low high rise. one_value source before w) [] d.values d.name.end cut.0 (subst (λ ss. AreRising d.name.end ss cut.0) (sym (singles d.values)) cut.1)))
       (λ r q x y. let first = limit_place most points before d r x in let second = place_above (d.name ∷ (d.values ++ d.right ∷ [])) d.left.end high q.at rise (named_place before d q y) in omega arith)
 
   one_sort : (ds : List Declaration) (low high : ℕ) → AreRising low (all_spans declaration_spans ds) high → IsOne (PartRow (DeclarationRow source most points others) [] ds)
@@ -272,7 +272,7 @@ one_declared source t low high rise =
 
 one_values : (n action : ℕ) (t : Table) (at : ℕ) (f : Func) → IsOne (TableValueRow n action t at f)
 one_values n action t at f =
-    one_plain (λ r. HasOutside (pos 0) (pos ticks) f × IsAt at kind.BadProbability r) (λ r. (¬ HasOutside (pos 0) (pos ticks) f) × ((bad : BadRow) × (bad_row f t ≡ Some bad) × IsAt at (kind.RowSum action (variable_number n t) bad.row bad.sum) r))
+    one_plain (λ r. HasOutside (pos 0) (pos ticks) f × IsRefusalAt at kind.BadProbability r) (λ r. (¬ HasOutside (pos 0) (pos ticks) f) × ((bad : BadRow) × (bad_row f t ≡ Some bad) × IsRefusalAt at (kind.RowSum action (variable_number n t) bad.row bad.sum) r))
     (λ r h. plain_at _ kind.BadProbability r (inl (omega arith)) h.1)
     (λ r q a b e k. a.1.2 ∙ ap (λ (x : BadRow). record { at = at; kind = kind.RowSum action (variable_number n t) x.row x.sum }) (some_same a.1.0 b.1.0 (bad_row f t) a.1.1 b.1.1) ∙ sym b.1.2)
 
@@ -288,7 +288,7 @@ one_factor env source before t =
     one_plain _ _ (λ r h. plain_at _ kind.BadScope r (inl (omega arith)) h.1)
     (one_plain (RoleRow env source role.Init t) _ (role_plain env source role.Init t)
     (λ r q a b.
-    one_plain (λ r. HasOutside (pos 0) (pos ticks) f × IsAt (start_of t) kind.BadProbability r) (λ r. (¬ HasOutside (pos 0) (pos ticks) f) × ((sum : ℤ) × (bad_sum f own ≡ Some sum) × IsAt (start_of t) (kind.InitSum sum) r))
+    one_plain (λ r. HasOutside (pos 0) (pos ticks) f × IsRefusalAt (start_of t) kind.BadProbability r) (λ r. (¬ HasOutside (pos 0) (pos ticks) f) × ((sum : ℤ) × (bad_sum f own ≡ Some sum) × IsRefusalAt (start_of t) (kind.InitSum sum) r))
     (λ r h. plain_at _ kind.BadProbability r (inl (omega arith)) h.1)
     (λ r q a b e k. a.1.2 ∙ ap (λ (x : ℤ). record { at = start_of t; kind = kind.InitSum x }) (some_same a.1.0 b.1.0 (bad_sum f own) a.1.1 b.1.1) ∙ sym b.1.2) r q a.1 b.1))
 
@@ -300,9 +300,9 @@ listed_plain env source words w r (inr h) = plain_at _ kind.RepeatedName r (inl 
 
 -- a word that names a variable of the wrong sort, or the table of one of the right sort
 one_scoped : (env : Env) (source : List ℕ) (action : ℕ) (wrong right : ℕ → Place) (table_for : ℕ → Table) → ((a b : ℕ) → right a ≡ right b → a ≡ b) → (w : Span) (t : Tree)
-    → IsOne (λ r. ((k : ℕ) × (place_of env (text source w) ≡ Some (wrong k)) × IsAt w.start kind.BadScope r) ⊎ ((k : ℕ) × (place_of env (text source w) ≡ Some (right k)) × TableRow env source action (table_for k) t r))
+    → IsOne (λ r. ((k : ℕ) × (place_of env (text source w) ≡ Some (wrong k)) × IsRefusalAt w.start kind.BadScope r) ⊎ ((k : ℕ) × (place_of env (text source w) ≡ Some (right k)) × TableRow env source action (table_for k) t r))
 one_scoped env source action wrong right table_for same w t =
-    one_plain (λ r. (k : ℕ) × (place_of env (text source w) ≡ Some (wrong k)) × IsAt w.start kind.BadScope r) (λ r. (k : ℕ) × (place_of env (text source w) ≡ Some (right k)) × TableRow env source action (table_for k) t r)
+    one_plain (λ r. (k : ℕ) × (place_of env (text source w) ≡ Some (wrong k)) × IsRefusalAt w.start kind.BadScope r) (λ r. (k : ℕ) × (place_of env (text source w) ≡ Some (right k)) × TableRow env source action (table_for k) t r)
     (λ r h. plain_at _ kind.BadScope r (inl (omega arith)) h.2)
     (λ r q a b at e. one_table env source action (table_for a.0) t r q a.2
     (subst (λ k. TableRow env source action (table_for k) t q) (same b.0 a.0 (some_same (right b.0) (right a.0) (place_of env (text source w)) b.1 a.1)) b.2) at e)
@@ -316,16 +316,16 @@ same_sight a b h = cc
 one_variable : (env : Env) (source : List ℕ) (action : ℕ) (words : List Span) (w : Span) (t : Tree) → IsOne (VariableRow env source action words w t)
 one_variable env source action words w t =
     one_plain (ListedRow env source words w)
-    (λ r. ((j : ℕ) × (place_of env (text source w) ≡ Some (Sight j)) × IsAt w.start kind.BadScope r) ⊎ ((i : ℕ) × (place_of env (text source w) ≡ Some (Variable i)) × TableRow env source action (table.Move i) t r))
+    (λ r. ((j : ℕ) × (place_of env (text source w) ≡ Some (Sight j)) × IsRefusalAt w.start kind.BadScope r) ⊎ ((i : ℕ) × (place_of env (text source w) ≡ Some (Variable i)) × TableRow env source action (table.Move i) t r))
     (listed_plain env source words w) (one_scoped env source action Sight Variable table.Move same_variable w t)
 
 one_observed : (env : Env) (source : List ℕ) (action : ℕ) (words : List Span) (before : List Observed) (o : Observed) → IsOne (ObservedRow env source action words before o)
 one_observed env source action words before o =
     one_plain (ListedRow env source (words ++ map (λ o. o.name) before) o.name)
-    (λ r. ((i : ℕ) × (place_of env (text source o.name) ≡ Some (Variable i)) × IsAt o.name.start kind.BadScope r) ⊎ ((j : ℕ) × (place_of env (text source o.name) ≡ Some (Sight j)) × TableRow env source action (table.Sight j) o.tree r))
+    (λ r. ((i : ℕ) × (place_of env (text source o.name) ≡ Some (Variable i)) × IsRefusalAt o.name.start kind.BadScope r) ⊎ ((j : ℕ) × (place_of env (text source o.name) ≡ Some (Sight j)) × TableRow env source action (table.Sight j) o.tree r))
     (listed_plain env source (words ++ map (λ o. o.name) before) o.name) (one_scoped env source action Variable Sight table.Sight same_sight o.name o.tree)
 
-repeated_plain : (P : Type 0) (at : ℕ) → ArePlain (λ r. P × IsAt at kind.RepeatedName r)
+repeated_plain : (P : Type 0) (at : ℕ) → ArePlain (λ r. P × IsRefusalAt at kind.RepeatedName r)
 repeated_plain P at r h = plain_at at kind.RepeatedName r (inl (omega arith)) h.1
 
 one_item : (env : Env) (source : List ℕ) (action : ℕ) (before : List Item) (x : Item) (low high : ℕ) → AreRising low (item_spans x) high → IsOne (ItemRow env source action before x)
@@ -339,10 +339,10 @@ one_item env source action before (item_of.Cost keyword t) low high rise =
 
 -- ---- sections
 
-one_name : (source : List ℕ) (P : Type 0) (n : Type 0) (w : Span) → IsOne (λ r. (P × IsAt w.start kind.RepeatedName r) ⊎ (n × IsAt w.start (kind.TooMany 256) r))
+one_name : (source : List ℕ) (P : Type 0) (n : Type 0) (w : Span) → IsOne (λ r. (P × IsRefusalAt w.start kind.RepeatedName r) ⊎ (n × IsRefusalAt w.start (kind.TooMany 256) r))
 one_name source P n w =
-    one_plain (λ r. P × IsAt w.start kind.RepeatedName r) (λ r. n × IsAt w.start (kind.TooMany 256) r) (repeated_plain P w.start)
-    (all_same (λ r. n × IsAt w.start (kind.TooMany 256) r) (record { at = w.start; kind = kind.TooMany 256 }) (λ r h. h.1))
+    one_plain (λ r. P × IsRefusalAt w.start kind.RepeatedName r) (λ r. n × IsRefusalAt w.start (kind.TooMany 256) r) (repeated_plain P w.start)
+    (all_same (λ r. n × IsRefusalAt w.start (kind.TooMany 256) r) (record { at = w.start; kind = kind.TooMany 256 }) (λ r h. h.1))
 
 one_action : (env : Env) (source : List ℕ) (before : List Section) (keyword name end : Span) (items : List Item) (low high : ℕ) → AreRising low (section_spans (section_of.Action keyword name items end)) high → IsOne (ActionRow env source before name items end)
 one_action env source before keyword name end items low high (a, b, (c, d, rise)) =
@@ -353,11 +353,11 @@ one_action env source before keyword name end items low high (a, b, (c, d, rise)
     (λ r h. plain_at end.start kind.MissingPart r (inl (omega arith)) h.1))
     (λ r q x y. let first = name_at r x in let second = place_above (all_spans item_spans items ++ end ∷ []) name.end high q.at rise (behind q y) in omega arith)
   where
-    name_at : (r : Refusal) → (Among (IsActionNamed source name) before × IsAt name.start kind.RepeatedName r) ⊎ ((action_count before ≡ 256) × IsAt name.start (kind.TooMany 256) r) → r.at ≡ name.start
+    name_at : (r : Refusal) → (Among (IsActionNamed source name) before × IsRefusalAt name.start kind.RepeatedName r) ⊎ ((action_count before ≡ 256) × IsRefusalAt name.start (kind.TooMany 256) r) → r.at ≡ name.start
     name_at r (inl h) = at_place name.start kind.RepeatedName r h.1
     name_at r (inr h) = at_place name.start (kind.TooMany 256) r h.1
 
-    behind : (q : Refusal) → PartRow (ItemRow env source (action_count before)) [] items q ⊎ (IsUnobserved env source items × IsAt end.start kind.MissingPart q) → HasPlace (all_spans item_spans items ++ end ∷ []) q.at
+    behind : (q : Refusal) → PartRow (ItemRow env source (action_count before)) [] items q ⊎ (IsUnobserved env source items × IsRefusalAt end.start kind.MissingPart q) → HasPlace (all_spans item_spans items ++ end ∷ []) q.at
     behind q (inl h) = has_left (all_spans item_spans items) (end ∷ []) q.at (part_place (ItemRow env source (action_count before)) item_spans (item_place env source (action_count before)) [] items q h)
     behind q (inr h) = has_right (all_spans item_spans items) (end ∷ []) q.at (inl (sym (at_place end.start kind.MissingPart q h.1)))
 
@@ -427,9 +427,9 @@ neither_kind : (a b p q : ℕ) → (if a == b then nat_lt p q else nat_lt a b) �
 neither_kind a b p q h k = grind (arith, nat_tests)
 
 -- so one refusal comes first
-one_least : (source : List ℕ) (t : Text) → AreRising 0 (text_spans t) (length source) → (x y : Refusal) → IsLeastOf (TextRow source t) (Some x) → IsLeastOf (TextRow source t) (Some y) → x ≡ y
+one_least : (source : List ℕ) (t : Text) → AreRising 0 (text_spans t) (length source) → (x y : Refusal) → IsFirstRefusal (TextRow source t) (Some x) → IsFirstRefusal (TextRow source t) (Some y) → x ≡ y
 one_least source t rise x y h k =
     one_text source t rise x y h.0 k.0 (neither x.at y.at (rank x.kind) (rank y.kind) (k.1 x h.0) (h.1 y k.0)) (neither_kind x.at y.at (rank x.kind) (rank y.kind) (k.1 x h.0) (h.1 y k.0))
 
-pub one_first : OneRefusal
+pub one_first : OneRefusalOfText
 one_first source t first second is h k = one_least source t (spans_rise source is.tokens t ((cut_alone source is.tokens).0 is.lexed) is.read) first second (part_least source t (Some first) h) (part_least source t (Some second) k)

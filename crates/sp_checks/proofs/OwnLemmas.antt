@@ -7,7 +7,7 @@ use Rattle.std.proofs.lemmas.List.FromFn.{length-range_with_len, get_or-range_wi
 use Rattle.std.proofs.Math.Nat.{mul-le-mul_right, mul-le-mul_left}
 use Rattle.sp_dd.specs.Func.{Shape, Func, size_of}
 use Rattle.sp_theory.specs.Points.{count_of}
-use Rattle.sp_model.specs.Problem.{sizes_of, doubled}
+use Rattle.sp_model.specs.Problem.{sizes_of, twice_each}
 use Rattle.sp_model.specs.Sizes.{AllSome}
 use Rattle.sp_model.proofs.SlotPoints.{size-unprimed}
 use Rattle.sp_model.proofs.Counts.{length-sizes_of, count_of-some, count_of-drop, AllSome-drop}
@@ -24,8 +24,8 @@ use Rattle.sp_trees.proofs.HoldLemmas.{tree_holds}
 use Rattle.sp_checks.specs.declared.roles.Role.TheVariants as role
 use Rattle.sp_checks.specs.declared.initial.Share.{Share}
 use Rattle.std.proofs.lemmas.List.{map_more}
-use Rattle.sp_trees.specs.Judge.{judged}
-use Rattle.sp_checks.specs.Roles.{allowed, start_of}
+use Rattle.sp_trees.specs.Judge.{judgement}
+use Rattle.sp_checks.specs.Roles.{allowed_slots, start_of}
 use Rattle.sp_checks.specs.Initial.{own_of, share_of}
 use Rattle.sp_checks.specs.Kept.{IsFitEnv}
 
@@ -75,7 +75,7 @@ pub own_few : (env : Env) (s : Shape) (n : ℕ) (m : Slots) (own : List ℕ) →
 own_few env s n m own fit e c o =
     let ks = sizes_of env.variables in
     let js = sizes_of env.sights in
-    let shape : s ≡ record { sizes = doubled ks ++ js; variables = length env.variables } = e ∙ fit.env_kept.shape in
+    let shape : s ≡ record { sizes = twice_each ks ++ js; variables = length env.variables } = e ∙ fit.env_kept.shape in
     let count : n ≡ length ks = c ∙ ap (λ (s : Shape). s.variables) fit.env_kept.shape ∙ sym (length-sizes_of env.variables) in
     let most = own_most s ks (λ i. has m (2 * i)) 0 n (some_sizes env.variables fit.declared.variables_kept)
     (λ i l. ap (λ (s : Shape). size_of s (2 * i)) shape ∙ size-unprimed ks js i l) (omega arith) in
@@ -92,7 +92,7 @@ share_shape sc j f h e = go j.outcome h e
 
 shares_kept : (env : Env) (source : List ℕ) (ts : List Tree) → IsEnv env → All (λ s. IfGood env.scope s.judged) (map (share_of env source) ts)
 shares_kept env source [] e k d l = absurd (omega arith)
-shares_kept env source (t ∷ ts) e zero d l = (tree_holds env source (allowed env.scope role.Init) e t).0
+shares_kept env source (t ∷ ts) e zero d l = (tree_holds env source (allowed_slots env.scope role.Init) e t).0
 shares_kept env source (t ∷ ts) e (suc k) d l = shares_kept env source ts e k d (omega arith)
 
 pub shares_good : (env : Env) (source : List ℕ) (ts : List Tree) (list : List Share) → IsEnv env → list ≡ map (share_of env source) ts → All (λ s. IfGood env.scope s.judged) list
@@ -100,7 +100,7 @@ shares_good env source ts list e h = subst (All (λ (s : Share). IfGood env.scop
 
 -- one more factor is judged
 pub share_more : (env : Env) (source : List ℕ) (ts : List Tree) (i : ℕ) (old new : List Share) (t : Tree) (at : ℕ) (j : Judged) (slots : Slots) → i < length ts → t ≡ get_or ts i t
-    → old ≡ map (share_of env source) (take i ts) → slots ≡ allowed env.scope role.Init → j ≡ judged env source slots t → at ≡ start_of t → new ≡ old ++ record { at = at; judged = j } ∷ [] → new ≡ map (share_of env source) (take (i + 1) ts)
+    → old ≡ map (share_of env source) (take i ts) → slots ≡ allowed_slots env.scope role.Init → j ≡ judgement env source slots t → at ≡ start_of t → new ≡ old ++ record { at = at; judged = j } ∷ [] → new ≡ map (share_of env source) (take (i + 1) ts)
 share_more env source ts i old new t at j slots l is o a v b h =
     let share : record { at = at; judged = j } ≡ share_of env source t = cc (b, v, a) in
     h ∙ ap₂ (λ xs x. xs ++ x ∷ []) o (share ∙ ap (share_of env source) is) ∙ sym (map_more (share_of env source) ts i t l)

@@ -11,10 +11,10 @@ use Rattle.sp_trees.specs.declared.env.Env.{Env}
 use Rattle.sp_trees.specs.declared.env.Dd.{Dd}
 use Rattle.sp_trees.specs.declared.nodes.Place.{Place}
 use Rattle.sp_trees.specs.Words.{text, name_span}
-use Rattle.sp_trees.specs.Dds.{found}
+use Rattle.sp_trees.specs.Dds.{dd_of_name}
 use Rattle.sp_trees.specs.Nodes.{place_of, values_of}
 use Rattle.sp_trees.specs.Values.{tree_value}
-use Rattle.sp_trees.specs.Rows.{Among, word_of, IsTreeOf, IsPartBy, IsInside, itself, within, BranchRows, NodeRowBy, ReferenceRow, WordRow, ValueRow, TreeRow}
+use Rattle.sp_trees.specs.Rows.{Among, word_of, IsTreeOfBranch, IsPartBy, IsSubtree, itself, within, BranchRows, NodeRowBy, ReferenceRow, TreeWordRow, ValueRow, TreeRow}
 use Rattle.sp_syntax.specs.Spans.{tree_step, branch_step, tree_spans, branch_spans, all_spans}
 use Rattle.sp_trees.proofs.ListPlaces.{at_of, sum_at, product_at}
 use Rattle.sp_declarations.specs.Rows.{HasPlace}
@@ -40,7 +40,7 @@ tree_in_list s p (t ∷ ts) (inr h) k = has_right (tree_spans t) (all_spans tree
 in_branch : (b : Branch) (p : ℕ) → HasPlace (tree_spans (out-Branch b).tree) p → HasPlace (branch_spans b) p
 in_branch b p h = subst (λ ss. HasPlace ss p) (sym (branch_out b)) (inr (inr (has_left (tree_spans (out-Branch b).tree) ((out-Branch b).right ∷ []) p h)))
 
-tree_in_branches : (s : Tree) (p : ℕ) (bs : List Branch) → Among (IsTreeOf s) bs → HasPlace (tree_spans s) p → HasPlace (all_spans branch_spans bs) p
+tree_in_branches : (s : Tree) (p : ℕ) (bs : List Branch) → Among (IsTreeOfBranch s) bs → HasPlace (tree_spans s) p → HasPlace (all_spans branch_spans bs) p
 tree_in_branches s p [] h k = absurd h
 tree_in_branches s p (b ∷ bs) (inl e) k = has_left (branch_spans b) (all_spans branch_spans bs) p (in_branch b p (subst (λ t. HasPlace (tree_spans t) p) (sym e) k))
 tree_in_branches s p (b ∷ bs) (inr h) k = has_right (branch_spans b) (all_spans branch_spans bs) p (tree_in_branches s p bs h k)
@@ -53,7 +53,7 @@ part_by s p (Tree-F.PrimedNode left word bs right) h k = inr (inr (has_left (all
 part_by s p (Tree-F.Sum left plus ts right) h k = inr (inr (has_left (all_spans tree_spans ts) (right ∷ []) p (tree_in_list s p ts h k)))
 part_by s p (Tree-F.Product left star ts right) h k = inr (inr (has_left (all_spans tree_spans ts) (right ∷ []) p (tree_in_list s p ts h k)))
 
-inside : (p : ℕ) (u t : Tree) → IsInside u t → HasPlace (tree_spans u) p → HasPlace (tree_spans t) p
+inside : (p : ℕ) (u t : Tree) → IsSubtree u t → HasPlace (tree_spans u) p → HasPlace (tree_spans t) p
 inside p u t (itself e) h = subst (λ t. HasPlace (tree_spans t) p) e h
 inside p u t (within s w i) h = subst (λ ss. HasPlace ss p) (sym (spans_out t)) (part_by s p (out-Tree t) w (inside p u s i h))
 
@@ -80,9 +80,9 @@ module _ (env : Env) (source : List ℕ) (allowed : Slots) where
   reference_place at None r h = at_of r _ h
   reference_place at (Some d) r h = at_of r _ h.1
 
-  word_place : (x : Tree-F Tree Branch) (r : Refusal) → WordRow env source allowed x r → HasPlace (spans_by x) r.at
+  word_place : (x : Tree-F Tree Branch) (r : Refusal) → TreeWordRow env source allowed x r → HasPlace (spans_by x) r.at
   word_place (Tree-F.Number left word right) r h = inr (inl (at_of r _ h.2))
-  word_place (Tree-F.Reference left word right) r h = inr (inl (reference_place word.start (found (text source word) env.dds) r h))
+  word_place (Tree-F.Reference left word right) r h = inr (inl (reference_place word.start (dd_of_name (text source word) env.dds) r h))
   word_place (Tree-F.Node left word bs right) r h = node_place false left word right bs (place_of env (text source (name_span false word))) r h
   word_place (Tree-F.PrimedNode left word bs right) r h = node_place true left word right bs (place_of env (text source (name_span true word))) r h
   word_place (Tree-F.Sum left plus ts right) r h = absurd h

@@ -24,12 +24,12 @@ use Rattle.sp_trees.specs.declared.nodes.Place.TheVariants.{Variable, Sight}
 use Rattle.sp_trees.specs.declared.lists.Op.{Op}
 use Rattle.sp_trees.specs.Words.{text}
 use Rattle.sp_trees.specs.Nodes.{place_of}
-use Rattle.sp_trees.specs.Rows.{IsLeastOf, Among, IsAt, OwnRow}
+use Rattle.sp_trees.specs.Rows.{IsFirstRefusal, Among, IsRefusalAt, OwnRow}
 use Rattle.sp_trees.proofs.LeastLemmas.{least_same}
-use Rattle.sp_declarations.specs.Rows.{PartRow, WordRow, LimitRow, DeclarationRow}
+use Rattle.sp_declarations.specs.Rows.{PartRow, DeclarationWordRow, LimitRow, DeclarationRow}
 use Rattle.sp_checks.specs.declared.roles.Role.{Role}
 use Rattle.sp_checks.specs.declared.roles.Role.TheVariants as role
-use Rattle.sp_checks.specs.Roles.{start_of, allowed}
+use Rattle.sp_checks.specs.Roles.{start_of, allowed_slots}
 use Rattle.sp_checks.specs.Accepted.{variable_number}
 use Rattle.sp_checks.specs.Sections.{number_kind}
 use Rattle.sp_checks.specs.Initial.{factor_trees}
@@ -48,7 +48,7 @@ module _ (source : List ℕ) (t : Text) where
   at_section before = env_before source t before
 
   -- a row of the table at a place and of a kind that are known
-  told : (k : ModelKind) (p : ℕ) (r : Refusal) → IsAt p k r → HasRow source t k p → Breaks source t r
+  told : (k : ModelKind) (p : ℕ) (r : Refusal) → IsRefusalAt p k r → HasRow source t k p → Breaks source t r
   told k p r e h = subst (Breaks source t) (sym e) h
 
   -- ==== from the table to the rows by parts
@@ -103,7 +103,7 @@ module _ (source : List ℕ) (t : Text) where
       in_item a c.before _ r c.stands (inr (subst (λ tree. RoleRow (at_section a.before) source role.Reward tree r) (sym q) (subst (λ env. RoleRow env source role.Reward whole r) e h)))
   in_tree env (role.Table k) whole r (action, stands) h = in_table env action k whole r stands (inl h)
 
-  own_in : (u : TreeOf source t) (r : Refusal) → OwnRow u.env source (allowed u.env.scope u.for) u.tree r → Row r
+  own_in : (u : TreeOf source t) (r : Refusal) → OwnRow u.env source (allowed_slots u.env.scope u.for) u.tree r → Row r
   own_in u r h = in_tree u.env u.for u.whole r u.stands (u.tree, u.inside, h)
 
   word_in : (u : TreeOf source t) (k : ModelKind) (at : ℕ) → IsWrongWord u.env source u.for u.tree k at → Row (record { at = at; kind = k })
@@ -116,7 +116,7 @@ module _ (source : List ℕ) (t : Text) where
   in_sight before d r k h = inl (inr (row_stands (DeclarationRow source 8 4096 t.variables.declarations) before d t.observations.declarations r k h))
 
   -- a row on the values of a declaration
-  in_values : (d : Declaration) (before : List Declaration) (r : Refusal) → StandsBehind before d (declarations_of t) → PartRow (WordRow source) [] d.values r → Row r
+  in_values : (d : Declaration) (before : List Declaration) (r : Refusal) → StandsBehind before d (declarations_of t) → PartRow (DeclarationWordRow source) [] d.values r → Row r
   in_values d before r k h =
       elim (stands_split t.variables.declarations t.observations.declarations before d k) [
         | inl a ↦ in_variable before d r a (inr (inr h))
@@ -150,7 +150,7 @@ module _ (source : List ℕ) (t : Text) where
           (inl (subst (λ v. ListedRow (at_section a.before) source (words_of m.0 ++ map (λ o. o.name) p.0) v r) p.4 (subst (λ ws. ListedRow (at_section a.before) source (words_of m.0 ++ ws) w r) p.3 listed)))))
       go (item_of.Cost keyword tree) s k = absurd (stands_nowhere m.2 w k)
 
-  in_discount : (d : DiscountOf t) (e : NumError) (r : Refusal) → ticks_of (text source d.word) ≡ Err e → IsAt d.word.start (number_kind e) r → Row r
+  in_discount : (d : DiscountOf t) (e : NumError) (r : Refusal) → ticks_of (text source d.word) ≡ Err e → IsRefusalAt d.word.start (number_kind e) r → Row r
   in_discount d e r q h = in_section d.before _ r d.stands (inr (inl (e, q, h)))
 
   limit_in : (most points : ℕ) (before : List Declaration) (d : Declaration) (limit at : ℕ) → IsPastLimit most points before d limit → at ≡ d.left.start → LimitRow most points before d (record { at = at; kind = kind.TooMany limit })
@@ -175,7 +175,7 @@ module _ (source : List ℕ) (t : Text) where
   repeated_in at (inr (inl (inl among))) =
       let m = stands_among (λ (d : Declaration). RepeatedWord source d.values at) (declarations_of t) among in
       let w = m.3 in
-      in_values m.1 m.0 _ m.2 (row_stands (WordRow source) w.before w.word m.1.values _ w.stands (inl (w.same, is_at kind.RepeatedName at w.word.start w.place)))
+      in_values m.1 m.0 _ m.2 (row_stands (DeclarationWordRow source) w.before w.word m.1.values _ w.stands (inl (w.same, is_at kind.RepeatedName at w.word.start w.place)))
   repeated_in at (inr (inl (inr (u, h)))) = word_in u kind.RepeatedName at h
   repeated_in at (inr (inr (inl (a, inl w)))) = in_words a w.before w.word _ w.stands (inr (w.same, is_at kind.RepeatedName at w.word.start w.place))
   repeated_in at (inr (inr (inl (a, inr (inl (c, among, q)))))) = in_item a c.before _ _ c.stands (inl (among, is_at kind.RepeatedName at c.keyword.start q))
@@ -197,7 +197,7 @@ module _ (source : List ℕ) (t : Text) where
   many_in limit at (inr (inl among)) =
       let m = stands_among (λ (d : Declaration). (before : List Span) × (w : Span) × StandsBehind before w d.values × (length before ≡ 64) × (limit ≡ 64) × (at ≡ w.start)) (declarations_of t) among in
       let w = m.3 in
-      in_values m.1 m.0 _ m.2 (row_stands (WordRow source) w.0 w.1 m.1.values _ w.2 (inr (w.3, λ i. record { at = w.5 i; kind = kind.TooMany (w.4 i) })))
+      in_values m.1 m.0 _ m.2 (row_stands (DeclarationWordRow source) w.0 w.1 m.1.values _ w.2 (inr (w.3, λ i. record { at = w.5 i; kind = kind.TooMany (w.4 i) })))
   many_in limit at (inr (inr (a, count, l, q))) = in_section a.before _ _ a.stands (inl (inr (count, λ i. record { at = q i; kind = kind.TooMany (l i) })))
 
   -- a row of the table is one by parts
@@ -301,7 +301,7 @@ module _ (source : List ℕ) (t : Text) where
         stands = among_stands (λ q. q ≡ o) pairs o list p refl;
       }
 
-      go : ((i : ℕ) × (place_of (at_section a.before) (text source o.name) ≡ Some (Variable i)) × IsAt o.name.start kind.BadScope r)
+      go : ((i : ℕ) × (place_of (at_section a.before) (text source o.name) ≡ Some (Variable i)) × IsRefusalAt o.name.start kind.BadScope r)
           ⊎ ((j : ℕ) × (place_of (at_section a.before) (text source o.name) ≡ Some (Sight j)) × TableRow (at_section a.before) source (action_count a.before) (table.Sight j) o.tree r) → Breaks source t r
       go (inl (i, place, q)) = told kind.BadScope o.name.start r q (inl (inr (inr (a, o.name, o.tree, pair, (i, place, refl)))))
       go (inr (j, place, h)) = told_table (at_section a.before) (action_count a.before) (table.Sight j) o.tree r (a, refl, refl, (o.name, pair, place)) h
@@ -376,12 +376,12 @@ module _ (source : List ℕ) (t : Text) where
   -- ---- declarations
 
   past_limit : (most points : ℕ) (before : List Declaration) (d : Declaration) (ds : List Declaration) (r : Refusal) → StandsBehind before d ds → LimitRow most points before d r
-      → (limit : ℕ) × HasTooMany most points ds limit d.left.start × IsAt d.left.start (kind.TooMany limit) r
+      → (limit : ℕ) × HasTooMany most points ds limit d.left.start × IsRefusalAt d.left.start (kind.TooMany limit) r
   past_limit most points before d ds r s (inl h) = (most, (before, d, s, inl (h.0, refl), refl), h.1)
   past_limit most points before d ds r s (inr (n, low, high, q)) = (points, (before, d, s, inr (n, low, high, refl), refl), q)
 
   told_name : (before : List Declaration) (d : Declaration) (r : Refusal) → StandsBehind before d (declarations_of t)
-      → Among (λ (e : Declaration). text source e.name ≡ text source d.name) before → IsAt d.name.start kind.RepeatedName r → Breaks source t r
+      → Among (λ (e : Declaration). text source e.name ≡ text source d.name) before → IsRefusalAt d.name.start kind.RepeatedName r → Breaks source t r
   told_name before d r s among q =
       told kind.RepeatedName d.name.start r q (inl (inl (record {
         before = map (λ d. d.name) before;
@@ -391,7 +391,7 @@ module _ (source : List ℕ) (t : Text) where
         place = refl;
       })))
 
-  told_value : (before : List Declaration) (d : Declaration) (words : List Span) (w : Span) (r : Refusal) → StandsBehind before d (declarations_of t) → StandsBehind words w d.values → WordRow source words w r → Breaks source t r
+  told_value : (before : List Declaration) (d : Declaration) (words : List Span) (w : Span) (r : Refusal) → StandsBehind before d (declarations_of t) → StandsBehind words w d.values → DeclarationWordRow source words w r → Breaks source t r
   told_value before d words w r s k (inl h) =
       told kind.RepeatedName w.start r h.1
       (inr (inl (inl (among_stands (λ (d : Declaration). RepeatedWord source d.values w.start) before d (declarations_of t) s (record { before = words; word = w; stands = k; same = h.0; place = refl })))))
@@ -403,14 +403,14 @@ module _ (source : List ℕ) (t : Text) where
   told_variable before d r s (inl h) = let m = past_limit 24 16777216 before d t.variables.declarations r s h in told (kind.TooMany m.0) d.left.start r m.2 (inl (inl m.1))
   told_variable before d r s (inr (inl h)) = told_name before d r (stands_left before d t.variables.declarations t.observations.declarations s) h.0 h.1
   told_variable before d r s (inr (inr h)) =
-      let m = row_stood (WordRow source) d.values r h in
+      let m = row_stood (DeclarationWordRow source) d.values r h in
       told_value before d m.0 m.1 r (stands_left before d t.variables.declarations t.observations.declarations s) m.2 m.3
 
   told_sight : (before : List Declaration) (d : Declaration) (r : Refusal) → StandsBehind before d t.observations.declarations → DeclarationRow source 8 4096 t.variables.declarations before d r → Breaks source t r
   told_sight before d r s (inl h) = let m = past_limit 8 4096 before d t.observations.declarations r s h in told (kind.TooMany m.0) d.left.start r m.2 (inl (inr m.1))
   told_sight before d r s (inr (inl h)) = told_name (t.variables.declarations ++ before) d r (stands_right before d t.variables.declarations t.observations.declarations s) h.0 h.1
   told_sight before d r s (inr (inr h)) =
-      let m = row_stood (WordRow source) d.values r h in
+      let m = row_stood (DeclarationWordRow source) d.values r h in
       told_value (t.variables.declarations ++ before) d m.0 m.1 r (stands_right before d t.variables.declarations t.observations.declarations s) m.2 m.3
 
   pub row_table : (r : Refusal) → Row r → Breaks source t r
@@ -420,8 +420,8 @@ module _ (source : List ℕ) (t : Text) where
   row_table r (inr (inr h)) = told_end r h
 
   -- so one is the first row of the table exactly where it is the first by parts
-  pub table_least : (o : Option Refusal) → IsLeastOf (TextRow source t) o → IsLeastOf (Breaks source t) o
+  pub table_least : (o : Option Refusal) → IsFirstRefusal (TextRow source t) o → IsFirstRefusal (Breaks source t) o
   table_least o h = least_same (TextRow source t) (Breaks source t) o row_table table_row h
 
-  pub part_least : (o : Option Refusal) → IsLeastOf (Breaks source t) o → IsLeastOf (TextRow source t) o
+  pub part_least : (o : Option Refusal) → IsFirstRefusal (Breaks source t) o → IsFirstRefusal (TextRow source t) o
   part_least o h = least_same (Breaks source t) (TextRow source t) o table_row row_table h

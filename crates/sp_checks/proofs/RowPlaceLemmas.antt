@@ -21,7 +21,7 @@ use Rattle.sp_syntax.specs.Spans.{AreRising, tree_spans, observed_spans, item_sp
 use Rattle.sp_declarations.specs.Rows.{PartRow, HasPlace}
 use Rattle.sp_declarations.proofs.ChainLemmas.{has_left, has_right, rising_split, part_place}
 use Rattle.sp_checks.specs.declared.roles.Role.TheVariants as role
-use Rattle.sp_checks.specs.Roles.{start_of, allowed}
+use Rattle.sp_checks.specs.Roles.{start_of, allowed_slots}
 use Rattle.sp_checks.specs.Initial.{factor_trees, trees_by}
 use Rattle.sp_checks.specs.Told.{env_after}
 use Rattle.sp_checks.proofs.TextRows.{TableRow, ListedRow, VariableRow, ObservedRow, ItemRow, ActionRow, FactorRow, InitRow, NumberRow, SectionRow}
@@ -38,7 +38,7 @@ place q r e = ap (λ r. r.at) e
 
 pub factor_place : (env : Env) (source : List ℕ) (before : List Tree) (t : Tree) (r : Refusal) → FactorRow env source before t r → HasPlace (tree_spans t) r.at
 factor_place env source before t r (inl h) = at (tree_spans t) (start_of t) r (place _ r h.1) (start_place t)
-factor_place env source before t r (inr (inl h)) = row_place env source (allowed env.scope role.Init) t r h
+factor_place env source before t r (inr (inl h)) = row_place env source (allowed_slots env.scope role.Init) t r h
 factor_place env source before t r (inr (inr (q, (inl h)))) = at (tree_spans t) (start_of t) r (place _ r h.1) (start_place t)
 factor_place env source before t r (inr (inr (q, (inr h)))) = at (tree_spans t) (start_of t) r (place _ r h.1.2) (start_place t)
 
@@ -90,7 +90,7 @@ init_place env source before keyword t r (inr (inr h)) = inr (in_tree t r.at (fa
 -- ---- items
 
 pub table_place : (env : Env) (source : List ℕ) (action : ℕ) (k : Table) (t : Tree) (r : Refusal) → TableRow env source action k t r → HasPlace (tree_spans t) r.at
-table_place env source action k t r (inl h) = row_place env source (allowed env.scope (role.Table k)) t r h
+table_place env source action k t r (inl h) = row_place env source (allowed_slots env.scope (role.Table k)) t r h
 table_place env source action k t r (inr (q, (inl h))) = at (tree_spans t) (start_of t) r (place _ r h.1) (start_place t)
 table_place env source action k t r (inr (q, (inr h))) = at (tree_spans t) (start_of t) r (place _ r h.1.2) (start_place t)
 
@@ -114,7 +114,7 @@ item_place env source action before (item_of.Observe keyword list end) r (inl h)
 item_place env source action before (item_of.Observe keyword list end) r (inr h) =
     inr (has_left (all_spans observed_spans list) (end ∷ []) r.at (part_place (ObservedRow env source action _) observed_spans (observed_place env source action _) [] list r h))
 item_place env source action before (item_of.Cost keyword t) r (inl h) = inl (sym (place _ r h.1))
-item_place env source action before (item_of.Cost keyword t) r (inr h) = inr (row_place env source (allowed env.scope role.Reward) t r h)
+item_place env source action before (item_of.Cost keyword t) r (inr h) = inr (row_place env source (allowed_slots env.scope role.Reward) t r h)
 
 action_place : (env : Env) (source : List ℕ) (before : List Section) (keyword name end : Span) (items : List Item) (r : Refusal) → ActionRow env source before name items end r → HasPlace (section_spans (section_of.Action keyword name items end)) r.at
 action_place env source before keyword name end items r (inl (inl h)) = inr (inl (sym (place _ r h.1)))

@@ -5,8 +5,8 @@ use Rattle.std.proofs.lemmas.Bool.Decides.{nat_tests}
 use Rattle.sp_dd.specs.Func.{Shape, Func, IsScope, IsIndependentOf}
 use Rattle.sp_dd.specs.Operations.{IsRow}
 use Rattle.sp_syntax.specs.declared.text.Tree.{Tree}
-use Rattle.sp_model.specs.Kept.{IsMove, IsSight}
-use Rattle.sp_model.specs.Problem.{sizes_of, doubled}
+use Rattle.sp_model.specs.Kept.{IsTransitionTable, IsSight}
+use Rattle.sp_model.specs.Problem.{sizes_of, twice_each}
 use Rattle.sp_model.proofs.RowLaw.{some_sizes}
 use Rattle.sp_model.proofs.SlotPoints.{length-doubled}
 use Rattle.sp_model.proofs.Counts.{length-sizes_of}
@@ -20,29 +20,29 @@ use Rattle.sp_trees.specs.declared.refusal.Refusal.{Refusal}
 use Rattle.sp_trees.specs.declared.slots.Slots.{Slots}
 use Rattle.sp_trees.specs.Slots.{is_among}
 use Rattle.sp_trees.specs.declared.env.Env.{Env}
-use Rattle.sp_trees.specs.Judge.{judged}
+use Rattle.sp_trees.specs.Judge.{judgement}
 use Rattle.sp_trees.specs.Good.{IsEnv, IsGood}
 use Rattle.sp_trees.proofs.HoldLemmas.{tree_holds}
 use Rattle.sp_declarations.proofs.StepLemmas.{stood, nothing_refused}
 use Rattle.sp_checks.specs.declared.roles.Role.{Role}
 use Rattle.sp_checks.specs.declared.roles.Role.TheVariants as role_of
 use Rattle.sp_checks.specs.declared.accepted.Accepted.{Accepted}
-use Rattle.sp_checks.specs.Roles.{allowed, may_mention, move_mentions, sight_mentions, IsSmallRole}
+use Rattle.sp_checks.specs.Roles.{allowed_slots, may_mention, move_mentions, sight_mentions, IsSmallRole}
 use Rattle.sp_checks.specs.Accepted.{accepted_by, accepted, row_refusal, table_refusal_by, table_refusal, table_of, variable_number}
-use Rattle.sp_checks.specs.Kept.{IsFitEnv, IsTableOf, IsWorth}
+use Rattle.sp_checks.specs.Kept.{IsFitEnv, IsTableOf, IsRewardFunction}
 use Rattle.sp_checks.proofs.RoleLemmas.{not_mentioned}
 
 -- ---- accepted trees
 module _ (env : Env) (source : List ℕ) (role : Role) (t : Tree) (a : Accepted) (e : IsEnv env) (h : accepted env source role t ≡ Ok a) where
-  pub accepted_kept : IsGood env.scope a.mentions a.func × (is_among a.mentions (allowed env.scope role) ≡ true)
+  pub accepted_kept : IsGood env.scope a.mentions a.func × (is_among a.mentions (allowed_slots env.scope role) ≡ true)
   unfolding accepted
-  accepted_kept = let holds = tree_holds env source (allowed env.scope role) e t in go (judged env source (allowed env.scope role) t).mentions (judged env source (allowed env.scope role) t).outcome holds.0 holds.1 h
+  accepted_kept = let holds = tree_holds env source (allowed_slots env.scope role) e t in go (judgement env source (allowed_slots env.scope role) t).mentions (judgement env source (allowed_slots env.scope role) t).outcome holds.0 holds.1 h
     where
-      go : (m : Slots) (o : Result Func Refusal) → IfOk o (λ f. IsGood env.scope m f) → IfOk o (λ f. is_among m (allowed env.scope role) ≡ true) → accepted_by m o ≡ Ok a
-          → IsGood env.scope a.mentions a.func × (is_among a.mentions (allowed env.scope role) ≡ true)
+      go : (m : Slots) (o : Result Func Refusal) → IfOk o (λ f. IsGood env.scope m f) → IfOk o (λ f. is_among m (allowed_slots env.scope role) ≡ true) → accepted_by m o ≡ Ok a
+          → IsGood env.scope a.mentions a.func × (is_among a.mentions (allowed_slots env.scope role) ≡ true)
       go m (Ok f) good among k =
           let same : record { mentions = m; func = f } ≡ a = cc in
-          subst (λ (a : Accepted). IsGood env.scope a.mentions a.func × (is_among a.mentions (allowed env.scope role) ≡ true)) same (good, among)
+          subst (λ (a : Accepted). IsGood env.scope a.mentions a.func × (is_among a.mentions (allowed_slots env.scope role) ≡ true)) same (good, among)
       go m (Err r) good among k = cc
 
   pub accepted_free : (slot : ℕ) → slot < length env.scope.sizes → may_mention env.scope.variables role slot ≡ false → IsIndependentOf a.func slot
@@ -133,7 +133,7 @@ module _ (env : Env) (source : List ℕ) (action : ℕ) (tree : Tree) (f : Func)
   seen_within : (j : ℕ) → j < length env.sights → 2 * env.scope.variables + j < length env.scope.sizes
   seen_within j l = seen_at env fit j l
 
-  pub table_move : (i : ℕ) → i < length env.variables → table_of env source action (table.Move i) tree ≡ Ok f → IsMove env.scope i f
+  pub table_move : (i : ℕ) → i < length env.variables → table_of env source action (table.Move i) tree ≡ Ok f → IsTransitionTable env.scope i f
   table_move i l h =
       let k = kept_table env source action (table.Move i) tree f h in
       let good = (accepted_kept env source (role_of.Table (table.Move i)) tree k.from fit.env_kept k.was).0 in
@@ -173,7 +173,7 @@ module _ (env : Env) (source : List ℕ) (action : ℕ) (tree : Tree) (f : Func)
       }
 
 -- a reward or a cost
-pub worth_kept : (env : Env) (source : List ℕ) (t : Tree) (a : Accepted) → IsEnv env → accepted env source role_of.Reward t ≡ Ok a → IsWorth env.scope a.func
+pub worth_kept : (env : Env) (source : List ℕ) (t : Tree) (a : Accepted) → IsEnv env → accepted env source role_of.Reward t ≡ Ok a → IsRewardFunction env.scope a.func
 worth_kept env source t a e h = record {
   fit = (accepted_kept env source role_of.Reward t a e h).0.fit;
   not_seen = λ j b. accepted_free env source role_of.Reward t a e h (2 * env.scope.variables + j) b (reward_unseen env.scope.variables j);
@@ -190,7 +190,7 @@ table_slot env (table.Sight j) f fit h e = subst (λ (s : Shape). 2 * s.variable
 pub table_few : (env : Env) (t : Table) (f : Func) → IsFitEnv env → f.shape ≡ env.scope → product (row_widths f.shape t) ≤ 2 ^ 48
 table_few env t f fit e =
     subst (λ (s : Shape). product (row_widths s t) ≤ 2 ^ 48) (sym (e ∙ fit.env_kept.shape))
-    (subst (λ (n : ℕ). product (widths_from (numbers_rows n t) 0 (doubled (sizes_of env.variables) ++ sizes_of env.sights)) ≤ 2 ^ 48) (length-sizes_of env.variables)
+    (subst (λ (n : ℕ). product (widths_from (numbers_rows n t) 0 (twice_each (sizes_of env.variables) ++ sizes_of env.sights)) ≤ 2 ^ 48) (length-sizes_of env.variables)
     (few_rows (sizes_of env.variables) (sizes_of env.sights) t (some_sizes env.variables fit.declared.variables_kept) fit.declared.few_states))
 
 pub table_number : (env : Env) (t : Table) (n : ℕ) → IsFitEnv env → IsTableOf env t → n ≡ env.scope.variables → variable_number n t ≤ 64

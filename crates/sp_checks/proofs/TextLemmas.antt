@@ -12,11 +12,11 @@ use Rattle.sp_model.specs.declared.parts.Parts.{Parts}
 use Rattle.sp_model.specs.Kept.{IsModel}
 use Rattle.sp_trees.specs.declared.refusal.Refusal.{Refusal}
 use Rattle.sp_trees.specs.declared.env.Env.{Env}
-use Rattle.sp_trees.specs.Rows.{IsLeastOf}
+use Rattle.sp_trees.specs.Rows.{IsFirstRefusal}
 use Rattle.sp_declarations.specs.declared.error.ModelError.{ModelError}
 use Rattle.sp_declarations.specs.declared.error.ModelError.TheVariants as error
 use Rattle.sp_declarations.specs.declared.declarations.Declared.{Declared}
-use Rattle.sp_declarations.specs.Steps.{◌>>=◌, in_turn, Gives}
+use Rattle.sp_declarations.specs.Steps.{◌>>=◌, in_turn, GivesOrRunsOut}
 use Rattle.sp_declarations.specs.Declarations.{declarations_of}
 use Rattle.sp_declarations.specs.Rows.{PartRow, DeclaredRow, refusal_of}
 use Rattle.sp_declarations.proofs.StepLemmas.{stood, turns_keep}
@@ -25,13 +25,13 @@ use Rattle.sp_declarations.proofs.RowLemmas.{declared_least, declared_place, dec
 use Rattle.sp_checks.specs.declared.state.State.{State}
 use Rattle.sp_checks.specs.Sections.{section, begun}
 use Rattle.sp_checks.specs.Finish.{finish}
-use Rattle.sp_checks.specs.Kept.{IsState}
+use Rattle.sp_checks.specs.Kept.{IsReadingState}
 use Rattle.sp_checks.specs.Source.{HasName, HasWords, IsTextOf}
 use Rattle.sp_checks.specs.Meaning.{meaning}
 use Rattle.sp_checks.specs.Told.{env_of, parts_in}
 use Rattle.sp_checks.proofs.TextRows.{SectionRow, EndRow, TextRow}
 use Rattle.sp_checks.specs.RefusalTable.{Breaks}
-use Rattle.sp_checks.specs.Answers.{Answers}
+use Rattle.sp_checks.specs.Answers.{AnswersText}
 use Rattle.sp_checks.proofs.AmongLemmas.{at_place}
 use Rattle.sp_checks.proofs.ReadingLemmas.{has_declared}
 use Rattle.sp_checks.proofs.StartLemmas.{begun_state}
@@ -61,15 +61,15 @@ module _ (source : List ℕ) (t : Text) (words : HasWords source t) where
     actions = record { named = λ w. (λ q. absurd (false≢true q), λ m. absurd m); count = refl; told = refl };
   }
 
-  state_kept : (d : Declared) (s : State) → declarations_of source t ≡ Ok d → in_turn (section source) (begun d) t.sections ≡ Ok s → IsState s
-  state_kept d s e q = turns_keep (section source) IsState (HasName source) (λ s x u k n h. section_state source s k x u n h) t.sections (begun d) s words.sections (begun_state d (has_declared source t d words e)) q
+  state_kept : (d : Declared) (s : State) → declarations_of source t ≡ Ok d → in_turn (section source) (begun d) t.sections ≡ Ok s → IsReadingState s
+  state_kept d s e q = turns_keep (section source) IsReadingState (HasName source) (λ s x u k n h. section_state source s k x u n h) t.sections (begun d) s words.sections (begun_state d (has_declared source t d words e)) q
 
   end_place : (r : Refusal) → EndRow source env t.sections (length source) r → r.at ≡ length source
   end_place r (inl h) = at_place (length source) _ r h.1
   end_place r (inr h) = at_place (length source) _ r h.1
 
   -- the meaning answers the first row
-  pub text_least : AreRising 0 (text_spans t) (length source) → IsLeastOf (TextRow source t) (refusal_of (meaning source t))
+  pub text_least : AreRising 0 (text_spans t) (length source) → IsFirstRefusal (TextRow source t) (refusal_of (meaning source t))
   unfolding meaning
   text_least rise =
       let vs = declarations_spans t.variables in
@@ -98,21 +98,21 @@ module _ (source : List ℕ) (t : Text) (words : HasWords source t) where
         finish_model b.value (length source) p k b.then,
       )
 
-pub text_answers : (source : List ℕ) (t : Text) → IsTextOf source t → ((list : List Token) → (tokens_of source ≡ Ok list) ↔ IsCut source list) → (x : Result Parts ModelError) → Gives (meaning source t) x → Answers source t x
+pub text_answers : (source : List ℕ) (t : Text) → IsTextOf source t → ((list : List Token) → (tokens_of source ≡ Ok list) ↔ IsCut source list) → (x : Result Parts ModelError) → GivesOrRunsOut (meaning source t) x → AnswersText source t x
 text_answers source t is cut x h = go x h
   where
     words : HasWords source t
     words = has_words source t is cut
 
-    least : IsLeastOf (Breaks source t) (refusal_of (meaning source t))
+    least : IsFirstRefusal (Breaks source t) (refusal_of (meaning source t))
     least = table_least source t (refusal_of (meaning source t)) (text_least source t words (spans_rise source is.tokens t ((cut is.tokens).0 is.lexed) is.read))
 
-    go : (x : Result Parts ModelError) → Gives (meaning source t) x → Answers source t x
-    go (Ok p) h = let told = text_told source t words p h in (subst (λ y. IsLeastOf (Breaks source t) (refusal_of y)) h least, told.0, told.1)
-    go (Err (error.Fault at kind)) h = subst (λ y. IsLeastOf (Breaks source t) (refusal_of y)) h least
+    go : (x : Result Parts ModelError) → GivesOrRunsOut (meaning source t) x → AnswersText source t x
+    go (Ok p) h = let told = text_told source t words p h in (subst (λ y. IsFirstRefusal (Breaks source t) (refusal_of y)) h least, told.0, told.1)
+    go (Err (error.Fault at kind)) h = subst (λ y. IsFirstRefusal (Breaks source t) (refusal_of y)) h least
     go (Err error.NoMemory) h = tt
 
 -- an error that `?` passes on
-pub error_answers : (source : List ℕ) (t : Text) → IsTextOf source t → ((list : List Token) → (tokens_of source ≡ Ok list) ↔ IsCut source list) → (x : Result Parts ModelError) (e : ModelError) → Gives (meaning source t) (Err e) → IsErrAnd x (λ q. q ≡ e) → Answers source t x
+pub error_answers : (source : List ℕ) (t : Text) → IsTextOf source t → ((list : List Token) → (tokens_of source ≡ Ok list) ↔ IsCut source list) → (x : Result Parts ModelError) (e : ModelError) → GivesOrRunsOut (meaning source t) (Err e) → IsErrAnd x (λ q. q ≡ e) → AnswersText source t x
 error_answers source t is cut (Ok p) e h k = absurd k
-error_answers source t is cut (Err f) e h k = text_answers source t is cut (Err f) (subst (λ z. Gives (meaning source t) (Err z)) (sym k) h)
+error_answers source t is cut (Err f) e h k = text_answers source t is cut (Err f) (subst (λ z. GivesOrRunsOut (meaning source t) (Err z)) (sym k) h)

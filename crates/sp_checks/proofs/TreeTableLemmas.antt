@@ -20,20 +20,20 @@ use Rattle.sp_trees.specs.declared.lists.Op.{Op}
 use Rattle.sp_trees.specs.declared.lists.Op.TheVariants as op
 use Rattle.sp_trees.specs.Single.{number_kind}
 use Rattle.sp_trees.specs.Words.{text, name_span, number_of}
-use Rattle.sp_trees.specs.Dds.{found}
+use Rattle.sp_trees.specs.Dds.{dd_of_name}
 use Rattle.sp_trees.specs.Nodes.{place_of, values_of}
 use Rattle.sp_trees.specs.Values.{Value, tree_value}
-use Rattle.sp_trees.specs.Rows.{IsAt, IsPart, IsInside, itself, within, word_of, BranchRow, NodeRowBy, NodeRow, ReferenceRow, WordRow, partial_of, IsFine, IsBadPartial, PartialRow, ListRow, ValueRow, OwnRow}
+use Rattle.sp_trees.specs.Rows.{IsRefusalAt, IsPart, IsSubtree, itself, within, word_of, BranchRow, NodeRowBy, NodeRow, ReferenceRow, TreeWordRow, partial_of, IsFine, IsBadPartial, PartialRow, ListRow, ValueRow, OwnRow}
 use Rattle.sp_trees.proofs.InsideLemmas.{to_row}
 use Rattle.sp_checks.specs.declared.roles.Role.{Role}
-use Rattle.sp_checks.specs.Roles.{allowed}
+use Rattle.sp_checks.specs.Roles.{allowed_slots}
 use Rattle.sp_checks.specs.Standing.{StandsBehind, NumberOf, ReferenceOf, node_form, NodeOf, ListOf}
 use Rattle.sp_checks.specs.RefusalTable.{place_in, HasUnknownWord, HasRepeatedBranch, LacksBranch, IsOutOfScope, HasNoDecimal, partial_results_behind, partial_results, AreFine, HasUnevenResult, HasLargeResult, IsWrongAt, IsQuiet, HasQuietParts}
 use Rattle.sp_checks.proofs.TextRows.{HasNoRow}
 use Rattle.sp_checks.proofs.StandingLemmas.{row_stood, row_stands, branches_parts, parts_branches, among_stands, stands_among, stands_nowhere}
 
 -- a refusal at that place
-pub is_at : (k : ModelKind) (at p : ℕ) → at ≡ p → IsAt p k (record { at = at; kind = k })
+pub is_at : (k : ModelKind) (at p : ℕ) → at ≡ p → IsRefusalAt p k (record { at = at; kind = k })
 is_at k at p e = ap (λ a. record { at = a; kind = k }) e
 
 -- ---- partial results
@@ -69,7 +69,7 @@ list_stands o s at (v ∷ vs) before w r k fine h = partial_stands o s at v vs b
 
 module _ (env : Env) (source : List ℕ) (for : Role) where
   abbrev may : Slots
-  may = allowed env.scope for
+  may = allowed_slots env.scope for
 
   -- what is wrong with the words of a tree itself, by its kind
   abbrev pub IsWrongWord : Tree → ModelKind → ℕ → Type 0
@@ -88,20 +88,20 @@ module _ (env : Env) (source : List ℕ) (for : Role) where
   IsWrongResult o u kind.TooLarge at = HasLargeResult env source o u at
   IsWrongResult o u _ at = ⊥
 
-  told_word : (u : Tree) (k : ModelKind) (p : ℕ) (r : Refusal) → IsAt p k r → IsWrongWord u k p → IsWrongWord u r.kind r.at
+  told_word : (u : Tree) (k : ModelKind) (p : ℕ) (r : Refusal) → IsRefusalAt p k r → IsWrongWord u k p → IsWrongWord u r.kind r.at
   told_word u k p r e w = subst (λ (q : Refusal). IsWrongWord u q.kind q.at) (sym e) w
 
-  told_result : (o : Op) (u : Tree) (k : ModelKind) (p : ℕ) (r : Refusal) → IsAt p k r → IsWrongResult o u k p → IsWrongResult o u r.kind r.at
+  told_result : (o : Op) (u : Tree) (k : ModelKind) (p : ℕ) (r : Refusal) → IsRefusalAt p k r → IsWrongResult o u k p → IsWrongResult o u r.kind r.at
   told_result o u k p r e w = subst (λ (q : Refusal). IsWrongResult o u q.kind q.at) (sym e) w
 
   -- ---- words
 
-  number_told : (u : Tree) (n : NumberOf u) (e : NumError) (r : Refusal) → ticks_of (text source n.word) ≡ Err e → IsAt n.word.start (number_kind e) r → IsWrongWord u r.kind r.at
+  number_told : (u : Tree) (n : NumberOf u) (e : NumError) (r : Refusal) → ticks_of (text source n.word) ≡ Err e → IsRefusalAt n.word.start (number_kind e) r → IsWrongWord u r.kind r.at
   number_told u n fault.Shape r q h = told_word u kind.BadNumber n.word.start r h (n, q, refl)
   number_told u n fault.TooFine r q h = told_word u kind.TooFine n.word.start r h (n, q, refl)
   number_told u n fault.TooLarge r q h = told_word u kind.TooLarge n.word.start r h (n, q, refl)
 
-  reference_told : (u : Tree) (d : ReferenceOf u) (o : Option Dd) (r : Refusal) → found (text source d.word) env.dds ≡ o → ReferenceRow may d.word.start o r → IsWrongWord u r.kind r.at
+  reference_told : (u : Tree) (d : ReferenceOf u) (o : Option Dd) (r : Refusal) → dd_of_name (text source d.word) env.dds ≡ o → ReferenceRow may d.word.start o r → IsWrongWord u r.kind r.at
   reference_told u d None r e h = told_word u kind.UnknownName d.word.start r h (inl (d, e, refl))
   reference_told u d (Some dd) r e h = told_word u kind.BadScope d.word.start r h.1 (inr (d, dd, e, h.0, refl))
 
@@ -118,12 +118,12 @@ module _ (env : Env) (source : List ℕ) (for : Role) where
       let m = row_stood (BranchRow source (values_of env p)) n.branches r (branches_parts source (values_of env p) [] n.branches r h) in
       branch_told u n p m.0 m.1 r e m.2 m.3
 
-  pub word_told : (u : Tree) (r : Refusal) → WordRow env source may (out-Tree u) r → IsWrongWord u r.kind r.at
+  pub word_told : (u : Tree) (r : Refusal) → TreeWordRow env source may (out-Tree u) r → IsWrongWord u r.kind r.at
   word_told u r h = go (out-Tree u) refl h
     where
-      go : (x : Tree-F Tree Branch) → out-Tree u ≡ x → WordRow env source may x r → IsWrongWord u r.kind r.at
+      go : (x : Tree-F Tree Branch) → out-Tree u ≡ x → TreeWordRow env source may x r → IsWrongWord u r.kind r.at
       go (Tree-F.Number left word right) e h = number_told u (record { left = left; word = word; right = right; is = e }) h.0 r h.1 h.2
-      go (Tree-F.Reference left word right) e h = reference_told u (record { left = left; word = word; right = right; is = e }) (found (text source word) env.dds) r refl h
+      go (Tree-F.Reference left word right) e h = reference_told u (record { left = left; word = word; right = right; is = e }) (dd_of_name (text source word) env.dds) r refl h
       go (Tree-F.Node left word bs right) e h =
           node_told u (record { is_primed = false; left = left; word = word; branches = bs; right = right; is = e }) (place_of env (text source (name_span false word))) r refl h
       go (Tree-F.PrimedNode left word bs right) e h =
@@ -133,26 +133,26 @@ module _ (env : Env) (source : List ℕ) (for : Role) where
 
   -- ---- and back
 
-  number_row : (u : Tree) (n : NumberOf u) (e : NumError) (r : Refusal) → ticks_of (text source n.word) ≡ Err e → IsAt n.word.start (number_kind e) r → WordRow env source may (out-Tree u) r
-  number_row u n e r q h = subst (λ x. WordRow env source may x r) (sym n.is) (e, q, h)
+  number_row : (u : Tree) (n : NumberOf u) (e : NumError) (r : Refusal) → ticks_of (text source n.word) ≡ Err e → IsRefusalAt n.word.start (number_kind e) r → TreeWordRow env source may (out-Tree u) r
+  number_row u n e r q h = subst (λ x. TreeWordRow env source may x r) (sym n.is) (e, q, h)
 
-  reference_row : (u : Tree) (d : ReferenceOf u) (o : Option Dd) (r : Refusal) → found (text source d.word) env.dds ≡ o → ReferenceRow may d.word.start o r → WordRow env source may (out-Tree u) r
-  reference_row u d o r e h = subst (λ x. WordRow env source may x r) (sym d.is) (subst (λ o. ReferenceRow may d.word.start o r) (sym e) h)
+  reference_row : (u : Tree) (d : ReferenceOf u) (o : Option Dd) (r : Refusal) → dd_of_name (text source d.word) env.dds ≡ o → ReferenceRow may d.word.start o r → TreeWordRow env source may (out-Tree u) r
+  reference_row u d o r e h = subst (λ x. TreeWordRow env source may x r) (sym d.is) (subst (λ o. ReferenceRow may d.word.start o r) (sym e) h)
 
-  form_row : (is_primed : Bool) (left word right : Span) (bs : List Branch) (r : Refusal) → NodeRow env source may is_primed left word bs r → WordRow env source may (node_form is_primed left word bs right) r
+  form_row : (is_primed : Bool) (left word right : Span) (bs : List Branch) (r : Refusal) → NodeRow env source may is_primed left word bs r → TreeWordRow env source may (node_form is_primed left word bs right) r
   form_row false left word right bs r h = h
   form_row true left word right bs r h = h
 
-  node_row : (u : Tree) (n : NodeOf u) (o : Option Place) (r : Refusal) → place_in env source n ≡ o → NodeRowBy env source may n.is_primed n.left n.word n.branches o r → WordRow env source may (out-Tree u) r
+  node_row : (u : Tree) (n : NodeOf u) (o : Option Place) (r : Refusal) → place_in env source n ≡ o → NodeRowBy env source may n.is_primed n.left n.word n.branches o r → TreeWordRow env source may (out-Tree u) r
   node_row u n o r e h =
-      subst (λ x. WordRow env source may x r) (sym n.is)
+      subst (λ x. TreeWordRow env source may x r) (sym n.is)
       (form_row n.is_primed n.left n.word n.right n.branches r (subst (λ o. NodeRowBy env source may n.is_primed n.left n.word n.branches o r) (sym e) h))
 
-  branch_row : (u : Tree) (n : NodeOf u) (p : Place) (before : List Branch) (b : Branch) (r : Refusal) → place_in env source n ≡ Some p → StandsBehind before b n.branches → BranchRow source (values_of env p) before b r → WordRow env source may (out-Tree u) r
+  branch_row : (u : Tree) (n : NodeOf u) (p : Place) (before : List Branch) (b : Branch) (r : Refusal) → place_in env source n ≡ Some p → StandsBehind before b n.branches → BranchRow source (values_of env p) before b r → TreeWordRow env source may (out-Tree u) r
   branch_row u n p before b r e s h =
       node_row u n (Some p) r e (inr (inr (parts_branches source (values_of env p) [] n.branches r (row_stands (BranchRow source (values_of env p)) before b n.branches r s h))))
 
-  pub word_row : (u : Tree) (k : ModelKind) (at : ℕ) → IsWrongWord u k at → WordRow env source may (out-Tree u) (record { at = at; kind = k })
+  pub word_row : (u : Tree) (k : ModelKind) (at : ℕ) → IsWrongWord u k at → TreeWordRow env source may (out-Tree u) (record { at = at; kind = k })
   word_row u kind.UnknownName at (inl h) = reference_row u h.0 None _ h.1 (is_at kind.UnknownName at h.0.word.start h.2)
   word_row u kind.UnknownName at (inr (inl h)) = node_row u h.0 None _ h.1 (is_at kind.UnknownName at h.0.word.start h.2)
   word_row u kind.UnknownName at (inr (inr h)) =
@@ -202,7 +202,7 @@ module _ (env : Env) (source : List ℕ) (for : Role) where
   -- ---- nothing wrong
 
   abbrev Mark : Tree → Refusal → Type 0
-  Mark u q = WordRow env source may (out-Tree u) q ⊎ ValueRow env source (out-Tree u) q
+  Mark u q = TreeWordRow env source may (out-Tree u) q ⊎ ValueRow env source (out-Tree u) q
 
   -- what is wrong marks the tree
   marked : (u : Tree) (at : ℕ) → IsWrongAt env source for u at → (q : Refusal) × Mark u q
@@ -238,7 +238,7 @@ module _ (env : Env) (source : List ℕ) (for : Role) where
   part_quiet : (s p : Tree) → HasNoRow env source for s → IsPart p s → HasNoRow env source for p
   part_quiet s p h w r k = h r (to_row env source may s r (inr (inl (p, w, k))))
 
-  unmarked : (u s : Tree) → IsInside u s → HasNoRow env source for s → (q : Refusal) → ¬ Mark u q
+  unmarked : (u s : Tree) → IsSubtree u s → HasNoRow env source for s → (q : Refusal) → ¬ Mark u q
   unmarked u s (itself e) h q m = go (subst (λ t. Mark t q) e m)
     where
       go : Mark s q → ⊥
@@ -255,7 +255,7 @@ module _ (env : Env) (source : List ℕ) (for : Role) where
   of_quiet tree h r (u, i, inr v) = h u i r.at (wrong u r (inr v.0))
 
   abbrev IsGuarded : Tree → Type 0
-  IsGuarded t = (s u : Tree) → IsPart s t → IsInside u s → (q : Refusal) → ¬ Mark u q
+  IsGuarded t = (s u : Tree) → IsPart s t → IsSubtree u s → (q : Refusal) → ¬ Mark u q
 
   guard_of : (t : Tree) → HasQuietParts env source for t → IsGuarded t
   guard_of t h s u w i q m = h s w u i q.at (wrong u q m)

@@ -24,7 +24,7 @@ use Rattle.sp_syntax.specs.declared.text.Section.{Section}
 use Rattle.sp_syntax.specs.declared.text.Text.{Text}
 use Rattle.sp_syntax.specs.Classes.{section_keyword, inner_keyword, or_else, plain_class, word_class, primed_by, primed_class, mark_by, mark_class, class_by, class_of, with_class, classes, text_of}
 use Rattle.sp_syntax.specs.Grammar.{AreAll, IsValue, IsDeclaration, AreDeclarations, IsSection, IsText, declaration, declarations, init, dd, action, reward, discount, horizon, tolerance, text}
-use Rattle.sp_model.specs.Words.{IsName, IsValueName, BeginsName, is_word_byte, keywords}
+use Rattle.sp_model.specs.Words.{IsModelName, IsValueName, BeginsName, is_word_byte, keywords}
 use Rattle.sp_declarations.specs.Kept.{HasDeclared}
 use Rattle.sp_checks.specs.Source.{HasName, HasWords, IsTextOf}
 
@@ -166,7 +166,7 @@ value_name source s run within =
           is_true _ (ap is_word_byte is ∙ run.bytes (s.start + k) (omega arith) (omega arith));
     }
 
-name_word : (source : List ℕ) (c : Classed) → IsWordToken source c word.Name → IsName (text_of source c.span)
+name_word : (source : List ℕ) (c : Classed) → IsWordToken source c word.Name → IsModelName (text_of source c.span)
 name_word source c t =
     record { value = value_name source c.span t.run t.within; begins = begins_name (text_of source c.span) (plain_name (text_of source c.span) t.is); free = keywords_apart (text_of source c.span) t.is }
 

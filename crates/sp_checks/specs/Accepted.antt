@@ -11,18 +11,18 @@ use Rattle.sp_trees.specs.declared.refusal.Refusal.{Refusal}
 use Rattle.sp_trees.specs.declared.refusal.ModelKind.TheVariants as kind
 use Rattle.sp_trees.specs.declared.slots.Slots.{Slots}
 use Rattle.sp_trees.specs.declared.env.Env.{Env}
-use Rattle.sp_trees.specs.Judge.{judged}
+use Rattle.sp_trees.specs.Judge.{judgement}
 use Rattle.sp_declarations.specs.Steps.{◌>>=◌, unless_refused}
-use Rattle.sp_declarations.specs.Declarations.{refused}
+use Rattle.sp_declarations.specs.Declarations.{refusal_at}
 use Rattle.sp_checks.specs.declared.roles.Role.{Role}
 use Rattle.sp_checks.specs.declared.roles.Role.TheVariants as role
 use Rattle.sp_checks.specs.declared.accepted.Accepted.{Accepted}
-use Rattle.sp_checks.specs.Roles.{start_of, allowed}
+use Rattle.sp_checks.specs.Roles.{start_of, allowed_slots}
 
 -- an answer that lends a value, as the value
-abbrev pub seen : {X E : Type 0} → Result (Bor X) E → Result X E
-seen (Ok x) = Ok x.now
-seen (Err e) = Err e
+abbrev pub lent_answer : {X E : Type 0} → Result (Bor X) E → Result X E
+lent_answer (Ok x) = Ok x.now
+lent_answer (Err e) = Err e
 
 abbrev pub accepted_by : Slots → Result Func Refusal → Result Accepted Refusal
 accepted_by mentions (Ok f) = Ok (record { mentions = mentions; func = f })
@@ -30,7 +30,7 @@ accepted_by mentions (Err r) = Err r
 
 -- what a tree means in a role, unless it is refused
 unfoldable pub accepted : Env → List ℕ → Role → Tree → Result Accepted Refusal
-accepted env source role tree = let j = judged env source (allowed env.scope role) tree in accepted_by j.mentions j.outcome
+accepted env source role tree = let j = judgement env source (allowed_slots env.scope role) tree in accepted_by j.mentions j.outcome
 
 -- the number of a table's variable, with the observation variables behind the n state variables
 abbrev pub variable_number : ℕ → Table → ℕ
@@ -39,11 +39,11 @@ variable_number n (table.Sight j) = n + j
 
 abbrev pub row_refusal : ℕ → ℕ → Table → ℕ → Option BadRow → Option Refusal
 row_refusal n action t at None = None
-row_refusal n action t at (Some bad) = refused at (kind.RowSum action (variable_number n t) bad.row bad.sum)
+row_refusal n action t at (Some bad) = refusal_at at (kind.RowSum action (variable_number n t) bad.row bad.sum)
 
 abbrev pub table_refusal_by : ℕ → ℕ → Table → ℕ → Func → Bool → Option Refusal
 table_refusal_by n action t at f true = row_refusal n action t at (bad_row f t)
-table_refusal_by n action t at f false = refused at kind.BadProbability
+table_refusal_by n action t at f false = refusal_at at kind.BadProbability
 
 -- a table with a value that is no probability, or with a row that doesn't sum to one
 unfoldable pub table_refusal : ℕ → ℕ → Table → ℕ → Func → Option Refusal

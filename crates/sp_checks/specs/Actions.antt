@@ -20,7 +20,7 @@ use Rattle.sp_trees.specs.Refusals.{refused_if}
 use Rattle.sp_trees.specs.Words.{text}
 use Rattle.sp_trees.specs.Nodes.{place_of}
 use Rattle.sp_declarations.specs.Steps.{◌>>=◌, unless_refused, in_turn}
-use Rattle.sp_declarations.specs.Declarations.{refused}
+use Rattle.sp_declarations.specs.Declarations.{refusal_at}
 use Rattle.sp_checks.specs.declared.roles.Role.TheVariants as role
 use Rattle.sp_checks.specs.declared.state.Draft.{Draft}
 use Rattle.sp_checks.specs.declared.state.State.{State}
@@ -43,16 +43,16 @@ unlisted_by at p true = Err (record { at = at; kind = kind.RepeatedName })
 unlisted_by at p false = Ok p
 
 -- a variable that isn't listed yet
-abbrev pub unlisted : Listed → ℕ → Place → Result Place Refusal
-unlisted l at p = unlisted_by at p (is_listed l p)
+abbrev pub unlisted_place : Listed → ℕ → Place → Result Place Refusal
+unlisted_place l at p = unlisted_by at p (is_listed l p)
 
 abbrev pub named_by : Listed → ℕ → Option Place → Result Place Refusal
 named_by l at None = Err (record { at = at; kind = kind.UnknownName })
-named_by l at (Some p) = unlisted l at p
+named_by l at (Some p) = unlisted_place l at p
 
 -- what a word names that the action doesn't list yet
-unfoldable pub named : Env → List ℕ → Listed → Span → Result Place Refusal
-named env source l word = named_by l word.start (place_of env (text source word))
+unfoldable pub place_of_name : Env → List ℕ → Listed → Span → Result Place Refusal
+place_of_name env source l word = named_by l word.start (place_of env (text source word))
 
 abbrev pub variable_at : Env → List ℕ → Listed → Span → Tree → Place → Result Listed Refusal
 variable_at env source l word t (Variable i) = table_of env source l.action (table.Move i) t >>= λ f. Ok (record l { moves = slice_set l.moves i (Some f) })
@@ -60,18 +60,18 @@ variable_at env source l word t (Sight j) = Err (record { at = word.start; kind 
 
 -- an item NAME tree
 unfoldable pub variable : Env → List ℕ → Listed → Span → Tree → Result Listed Refusal
-variable env source l word t = named env source l word >>= λ p. variable_at env source l word t p
+variable env source l word t = place_of_name env source l word >>= λ p. variable_at env source l word t p
 
 abbrev pub observed_at : Env → List ℕ → Listed → Observed → Place → Result Listed Refusal
 observed_at env source l o (Variable i) = Err (record { at = o.name.start; kind = kind.BadScope })
 observed_at env source l o (Sight j) = table_of env source l.action (table.Sight j) o.tree >>= λ f. Ok (record l { sights = slice_set l.sights j (Some f) })
 
 -- a pair NAME tree in the list of observe
-unfoldable pub observed : Env → List ℕ → Listed → Observed → Result Listed Refusal
-observed env source l o = named env source l o.name >>= λ p. observed_at env source l o p
+unfoldable pub observe_entry : Env → List ℕ → Listed → Observed → Result Listed Refusal
+observe_entry env source l o = place_of_name env source l o.name >>= λ p. observed_at env source l o p
 
 abbrev pub observed_in_turn : Env → List ℕ → Listed → List Observed → Result Listed Refusal
-observed_in_turn env source l list = in_turn (observed env source) l list
+observed_in_turn env source l list = in_turn (observe_entry env source) l list
 
 -- the word observe, which wasn't listed before
 unfoldable pub begun_observe : Listed → ℕ → Result Listed Refusal
@@ -125,7 +125,7 @@ sights_of at ts = in_turn (sight_step at) [] ts
 
 -- an action's name that another has, or the name of the 257th
 abbrev pub name_refusal_by : Bool → ℕ → ℕ → Option Refusal
-name_refusal_by is_new count at = if is_new then refused_if (count == 256) at (kind.TooMany 256) else refused at kind.RepeatedName
+name_refusal_by is_new count at = if is_new then refused_if (count == 256) at (kind.TooMany 256) else refusal_at at kind.RepeatedName
 
 abbrev pub checked_name : List ℕ → List (List ℕ) → ℕ → Span → Result (Unit {0}) Refusal
 checked_name source names count word = unless_refused (name_refusal_by (not (list_any (bytes_eq (text source word)) names)) count word.start)

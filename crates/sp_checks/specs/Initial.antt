@@ -15,14 +15,14 @@ use Rattle.sp_trees.specs.declared.env.Env.{Env}
 use Rattle.sp_trees.specs.Refusals.{lesser, refused_if}
 use Rattle.sp_trees.specs.Judged.{refusal}
 use Rattle.sp_trees.specs.Slots.{none, union, has}
-use Rattle.sp_trees.specs.Judge.{judged}
+use Rattle.sp_trees.specs.Judge.{judgement}
 use Rattle.sp_declarations.specs.Steps.{◌>>=◌, unless_refused, in_turn}
-use Rattle.sp_declarations.specs.Declarations.{refused}
+use Rattle.sp_declarations.specs.Declarations.{refusal_at}
 use Rattle.sp_checks.specs.declared.roles.Role.TheVariants as role
 use Rattle.sp_checks.specs.declared.initial.Share.{Share}
 use Rattle.sp_checks.specs.declared.initial.Factored.{Factored}
 use Rattle.sp_checks.specs.declared.state.State.{State}
-use Rattle.sp_checks.specs.Roles.{start_of, allowed}
+use Rattle.sp_checks.specs.Roles.{start_of, allowed_slots}
 
 -- the own variables of a factor, where there are n: those that it mentions unprimed
 abbrev pub own_of : ℕ → Slots → List ℕ
@@ -37,20 +37,20 @@ abbrev pub has_every : ℕ → Slots → Bool
 has_every n mentions = list_all (λ i. has mentions (2 * i)) (range_with_len 0 n)
 
 -- what all factors mention
-abbrev pub mentioned : List Share → Slots
-mentioned list = fold (λ all s. union all s.judged.mentions) none list
+abbrev pub mentions_of_factors : List Share → Slots
+mentions_of_factors list = fold (λ all s. union all s.judged.mentions) none list
 
 -- a factor's place, and what judging it gives
 abbrev pub share_of : Env → List ℕ → Tree → Share
-share_of env source t = record { at = start_of t; judged = judged env source (allowed env.scope role.Init) t }
+share_of env source t = record { at = start_of t; judged = judgement env source (allowed_slots env.scope role.Init) t }
 
 abbrev pub sum_refusal : ℕ → Option ℤ → Option Refusal
 sum_refusal at None = None
-sum_refusal at (Some sum) = refused at (kind.InitSum sum)
+sum_refusal at (Some sum) = refusal_at at (kind.InitSum sum)
 
 abbrev pub value_refusal_by : ℕ → Func → List ℕ → Bool → Option Refusal
 value_refusal_by at f own true = sum_refusal at (bad_sum f own)
-value_refusal_by at f own false = refused at kind.BadProbability
+value_refusal_by at f own false = refusal_at at kind.BadProbability
 
 -- a factor with a value that is no probability, or that doesn't sum to one over its own variables
 unfoldable pub value_refusal : ℕ → Func → List ℕ → Option Refusal
@@ -86,7 +86,7 @@ factors_in_turn n list = in_turn (factor_step n) no_factors list
 
 -- each variable is in some factor
 abbrev pub checked_every : ℕ → ℕ → List Share → Result (Unit {0}) Refusal
-checked_every n at list = unless_refused (refused_if (not (has_every n (mentioned list))) at kind.BadScope)
+checked_every n at list = unless_refused (refused_if (not (has_every n (mentions_of_factors list))) at kind.BadScope)
 
 -- the factors of some judged trees, of which each variable is in one
 unfoldable pub factors : ℕ → ℕ → List Share → Result (List Factor) Refusal

@@ -26,20 +26,20 @@ use Rattle.sp_trees.specs.declared.nodes.Place.TheVariants.{Variable, Sight}
 use Rattle.sp_trees.specs.declared.lists.Op.{Op}
 use Rattle.sp_trees.specs.Slots.{has, is_among}
 use Rattle.sp_trees.specs.Words.{text, name_span, number_of}
-use Rattle.sp_trees.specs.Dds.{found}
+use Rattle.sp_trees.specs.Dds.{dd_of_name}
 use Rattle.sp_trees.specs.Nodes.{place_of, values_of, slot_of, is_sayable}
 use Rattle.sp_trees.specs.Conditions.{HasOutside}
 use Rattle.sp_trees.specs.Values.{Value, tree_value}
 use Rattle.sp_trees.specs.Told.{func_of, mentions_of}
-use Rattle.sp_trees.specs.Rows.{Among, IsPart, IsInside, word_of, Names, partial_of, IsFine, IsPartial, IsLarge}
+use Rattle.sp_trees.specs.Rows.{Among, IsPart, IsSubtree, word_of, NamesValue, partial_of, IsFine, IsPartial, IsLarge}
 use Rattle.sp_declarations.specs.Rows.{choices}
 use Rattle.sp_checks.specs.declared.roles.Role.{Role}
 use Rattle.sp_checks.specs.declared.roles.Role.TheVariants as role
-use Rattle.sp_checks.specs.Roles.{start_of, allowed}
+use Rattle.sp_checks.specs.Roles.{start_of, allowed_slots}
 use Rattle.sp_checks.specs.Accepted.{variable_number}
 use Rattle.sp_checks.specs.Initial.{factor_trees, own_of}
 use Rattle.sp_checks.specs.Told.{env_of, actions_in}
-use Rattle.sp_checks.specs.Standing.{StandsBehind, RepeatedWord, declarations_of, IsInit, IsReward, IsDiscount, IsAction, IsActionNamed, IsDdNamed, action_count, env_before, InitOf, DdOf, RewardOf, DiscountOf, ActionOf, IsObserve, IsCost, words_of, observed_words, IsListed, HasPair, CostOf, ObserveOf, NumberOf, ReferenceOf, NodeOf, ListOf, TableStands, TreeStands, TreeOf}
+use Rattle.sp_checks.specs.Standing.{StandsBehind, RepeatedWord, declarations_of, IsInit, IsRewardSection, IsDiscount, IsActionSection, IsActionNamed, IsDdNamed, action_count, env_before, InitOf, DdOf, RewardOf, DiscountOf, ActionOf, IsObserve, IsCost, words_of, observed_words, IsListed, HasPair, CostOf, ObserveOf, NumberOf, ReferenceOf, NodeOf, ListOf, TableStands, TreeStands, TreeOf}
 
 -- ==== UnknownName: a variable, value, observation variable or dd is used that isn't declared before: the word
 -- what a node's word names
@@ -49,7 +49,7 @@ place_in env source n = place_of env (text source (name_span n.is_primed n.word)
 -- the dd of a reference, the variable of a node, or the value of a branch
 abbrev pub HasUnknownWord : Env → List ℕ → Tree → ℕ → Type 0
 HasUnknownWord env source u at =
-    ((d : ReferenceOf u) × (found (text source d.word) env.dds ≡ None) × (at ≡ d.word.start))
+    ((d : ReferenceOf u) × (dd_of_name (text source d.word) env.dds ≡ None) × (at ≡ d.word.start))
     ⊎ (((n : NodeOf u) × (place_in env source n ≡ None) × (at ≡ n.word.start))
     ⊎ ((n : NodeOf u) × (p : Place) × (place_in env source n ≡ Some p)
     × Among (λ b. (number_of (values_of env p) (text source (word_of b)) ≡ None) × (at ≡ (word_of b).start)) n.branches))
@@ -73,7 +73,7 @@ abbrev pub HasRepeatedBranch : Env → List ℕ → Tree → ℕ → Type 0
 HasRepeatedBranch env source u at =
     (n : NodeOf u) × (p : Place) × (place_in env source n ≡ Some p)
     × ((before : List Branch) × (b : Branch) × StandsBehind before b n.branches
-    × ((v : ℕ) × Names source (values_of env p) v b × Among (Names source (values_of env p) v) before × (at ≡ (word_of b).start)))
+    × ((v : ℕ) × NamesValue source (values_of env p) v b × Among (NamesValue source (values_of env p) v) before × (at ≡ (word_of b).start)))
 
 abbrev pub HasRepeatedValue : List ℕ → Text → ℕ → Type 0
 HasRepeatedValue source t at =
@@ -92,14 +92,14 @@ HasRepeatedItem source t at =
 abbrev pub HasRepeatedSection : Text → ℕ → Type 0
 HasRepeatedSection t at =
     ((s : InitOf t) × Among IsInit s.before × (at ≡ s.keyword.start))
-    ⊎ (((s : RewardOf t) × Among IsReward s.before × (at ≡ s.keyword.start))
+    ⊎ (((s : RewardOf t) × Among IsRewardSection s.before × (at ≡ s.keyword.start))
     ⊎ ((s : DiscountOf t) × Among IsDiscount s.before × (at ≡ s.keyword.start)))
 
 -- ==== MissingValue: a node doesn't list every value of its variable: the node's bracket
 abbrev pub LacksBranch : Env → List ℕ → Tree → ℕ → Type 0
 LacksBranch env source u at =
     (n : NodeOf u) × (p : Place) × (place_in env source n ≡ Some p)
-    × ((v : ℕ) × (v < length (values_of env p)) × (¬ Among (Names source (values_of env p) v) n.branches) × (at ≡ n.left.start))
+    × ((v : ℕ) × (v < length (values_of env p)) × (¬ Among (NamesValue source (values_of env p) v) n.branches) × (at ≡ n.left.start))
 
 abbrev pub LacksValue : List ℕ → Text → ℕ → Type 0
 LacksValue source t at = (u : TreeOf source t) × LacksBranch u.env source u.tree at
@@ -114,15 +114,15 @@ LacksObservation source t at = (a : ActionOf t) × IsUnobserved (env_before sour
 -- ==== MissingPart: init, discount or every action is missing: the file's length
 abbrev pub LacksSection : List ℕ → Text → ℕ → Type 0
 LacksSection source t at =
-    ((¬ Among IsInit t.sections) ⊎ ((¬ Among IsDiscount t.sections) ⊎ (¬ Among IsAction t.sections))) × (at ≡ length source)
+    ((¬ Among IsInit t.sections) ⊎ ((¬ Among IsDiscount t.sections) ⊎ (¬ Among IsActionSection t.sections))) × (at ≡ length source)
 
 -- ==== BadScope: a variable is mentioned where it may not be, an item of an action names an observation variable, or observe lists a state variable: the word
 -- by a node, or by a reference for what its dd mentions
 abbrev pub IsOutOfScope : Env → List ℕ → Role → Tree → ℕ → Type 0
 IsOutOfScope env source for u at =
     ((n : NodeOf u) × (p : Place) × (place_in env source n ≡ Some p)
-    × ((is_sayable n.is_primed p && has (allowed env.scope for) (slot_of env n.is_primed p)) ≡ false) × (at ≡ n.word.start))
-    ⊎ ((d : ReferenceOf u) × (dd : Dd) × (found (text source d.word) env.dds ≡ Some dd) × (is_among dd.mentions (allowed env.scope for) ≡ false) × (at ≡ d.word.start))
+    × ((is_sayable n.is_primed p && has (allowed_slots env.scope for) (slot_of env n.is_primed p)) ≡ false) × (at ≡ n.word.start))
+    ⊎ ((d : ReferenceOf u) × (dd : Dd) × (dd_of_name (text source d.word) env.dds ≡ Some dd) × (is_among dd.mentions (allowed_slots env.scope for) ≡ false) × (at ≡ d.word.start))
 
 abbrev pub HasBadScope : List ℕ → Text → ℕ → Type 0
 HasBadScope source t at =
@@ -200,7 +200,7 @@ IsWrongAt env source for u at =
 
 -- nothing is wrong inside a tree
 abbrev pub IsQuiet : Env → List ℕ → Role → Tree → Type 0
-IsQuiet env source for tree = (u : Tree) → IsInside u tree → (at : ℕ) → ¬ IsWrongAt env source for u at
+IsQuiet env source for tree = (u : Tree) → IsSubtree u tree → (at : ℕ) → ¬ IsWrongAt env source for u at
 
 abbrev pub HasQuietParts : Env → List ℕ → Role → Tree → Type 0
 HasQuietParts env source for tree = (s : Tree) → IsPart s tree → IsQuiet env source for s

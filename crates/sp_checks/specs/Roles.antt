@@ -50,5 +50,5 @@ slots_where test zero = none
 slots_where test (suc k) = if test k then union (slots_where test k) (one k) else slots_where test k
 
 -- the slots that a tree may mention
-abbrev pub allowed : Shape → Role → Slots
-allowed s role = slots_where (may_mention s.variables role) (length s.sizes)
+abbrev pub allowed_slots : Shape → Role → Slots
+allowed_slots s role = slots_where (may_mention s.variables role) (length s.sizes)

@@ -13,7 +13,7 @@ use Rattle.sp_trees.specs.declared.refusal.ModelKind.{ModelKind}
 use Rattle.sp_trees.specs.declared.env.Dd.{Dd}
 use Rattle.sp_trees.specs.Refusals.{refused_if}
 use Rattle.sp_trees.specs.Words.{text}
-use Rattle.sp_trees.specs.Dds.{found}
+use Rattle.sp_trees.specs.Dds.{dd_of_name}
 use Rattle.sp_declarations.specs.declared.declarations.Declared.{Declared}
 use Rattle.sp_declarations.specs.Steps.{◌>>=◌, unless_refused}
 use Rattle.sp_checks.specs.declared.roles.Role.TheVariants as role
@@ -31,7 +31,7 @@ number_kind fault.TooLarge = kind.TooLarge
 
 -- no dd of that name was declared before
 abbrev pub checked_dd : List ℕ → List (List ℕ × Dd) → Span → Result (Unit {0}) Refusal
-checked_dd source dds word = unless_refused (refused_if (is_some (found (text source word) dds)) word.start kind.RepeatedName)
+checked_dd source dds word = unless_refused (refused_if (is_some (dd_of_name (text source word) dds)) word.start kind.RepeatedName)
 
 -- a dd
 unfoldable pub dd : List ℕ → State → Span → Tree → Result State Refusal

@@ -2,7 +2,7 @@
 use Rattle.std.specs.Prelude.{◌≡◌, ℕ, ◌<◌, List, Ok, All, length}
 use Rattle.sp_syntax.specs.declared.text.Section.{Section}
 use Rattle.sp_syntax.specs.declared.text.Section.TheVariants as section_of
-use Rattle.sp_model.specs.Words.{IsName}
+use Rattle.sp_model.specs.Words.{IsModelName}
 use Rattle.sp_trees.specs.Words.{text as text_at}
 use Rattle.sp_declarations.specs.Kept.{HasDeclared}
 use Rattle.sp_lex.specs.declared.lexeme.Token.{Token}
@@ -20,7 +20,7 @@ pub record IsTextOf (source : List ℕ) (text : Text) : Type 0 where
 -- ---- what the grammar says of the words that a model keeps
 -- an action's name is a name
 abbrev pub HasName : List ℕ → Section → Type 0
-HasName source (section_of.Action keyword name items end) = IsName (text_at source name)
+HasName source (section_of.Action keyword name items end) = IsModelName (text_at source name)
 HasName source _ = Unit {0}
 
 pub record HasWords (source : List ℕ) (text : Text) : Type 0 where

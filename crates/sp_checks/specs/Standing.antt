@@ -19,7 +19,7 @@ use Rattle.sp_trees.specs.declared.lists.Op.{Op}
 use Rattle.sp_trees.specs.declared.lists.Op.TheVariants as op
 use Rattle.sp_trees.specs.Words.{text}
 use Rattle.sp_trees.specs.Nodes.{place_of}
-use Rattle.sp_trees.specs.Rows.{Among, IsInside}
+use Rattle.sp_trees.specs.Rows.{Among, IsSubtree}
 use Rattle.sp_checks.specs.declared.roles.Role.{Role}
 use Rattle.sp_checks.specs.declared.roles.Role.TheVariants as role
 use Rattle.sp_checks.specs.Initial.{factor_trees}
@@ -53,17 +53,17 @@ abbrev pub IsInit : Section → Type 0
 IsInit (section_of.Init keyword t) = Unit {0}
 IsInit _ = ⊥
 
-abbrev pub IsReward : Section → Type 0
-IsReward (section_of.Reward keyword t) = Unit {0}
-IsReward _ = ⊥
+abbrev pub IsRewardSection : Section → Type 0
+IsRewardSection (section_of.Reward keyword t) = Unit {0}
+IsRewardSection _ = ⊥
 
 abbrev pub IsDiscount : Section → Type 0
 IsDiscount (section_of.Discount keyword word) = Unit {0}
 IsDiscount _ = ⊥
 
-abbrev pub IsAction : Section → Type 0
-IsAction (section_of.Action keyword name items end) = Unit {0}
-IsAction _ = ⊥
+abbrev pub IsActionSection : Section → Type 0
+IsActionSection (section_of.Action keyword name items end) = Unit {0}
+IsActionSection _ = ⊥
 
 -- an action of the name that this word is
 abbrev pub IsActionNamed : List ℕ → Span → Section → Type 0
@@ -241,4 +241,4 @@ pub record TreeOf (source : List ℕ) (t : Text) : Type 0 where
   pub whole : Tree
   pub stands : TreeStands source t env for whole
   pub tree : Tree
-  pub inside : IsInside tree whole
+  pub inside : IsSubtree tree whole

@@ -4,7 +4,7 @@ ghost use Rattle.std.specs.Prelude.{◌≡◌, ◌<◌, ◌≤◌, true, length,
 ghost use Rattle.sp_dd.specs.Func.{size_of};
 ghost use Rattle.sp_trees.specs.Good.{IsEnv, IsGood};
 ghost use Rattle.sp_trees.specs.Slots.{is_among};
-ghost use Rattle.sp_declarations.specs.Steps.{Gives};
+ghost use Rattle.sp_declarations.specs.Steps.{GivesOrRunsOut};
 ghost use Rattle.sp_checks.specs.Kept.{IsFitEnv, IsTableOf};
 ghost use Rattle.sp_checks.specs.Roles.{IsSmallRole};
 ghost use Rattle.sp_checks.specs.Accepted as spec;
@@ -36,7 +36,7 @@ pub(crate) fn accept(
 ) -> Result<Accepted, ModelError>
     requires env { IsEnv env.now }
     requires role { IsSmallRole role }
-    ensures value { Gives (spec.accepted env.now source.now role tree.now) result }
+    ensures value { GivesOrRunsOut (spec.accepted env.now source.now role tree.now) result }
     ensures good { IfOk result (λ a. IsGood env.now.scope a.mentions a.func) }
 {
     let Judged { mentions, outcome } = judge(alloc, env, allowed(&env.scope, role), source, tree)?;
@@ -123,7 +123,7 @@ fn check_table(
     requires env { IsFitEnv env.now }
     requires table { IsTableOf env.now table }
     requires shape { func.now.shape ≡ env.now.scope }
-    ensures { Gives (spec.checked_table env.now.scope.variables action table at func.now) result }
+    ensures { GivesOrRunsOut (spec.checked_table env.now.scope.variables action table at func.now) result }
 {
     let refused = table_refusal(alloc, env, action, table, at, func)?;
     refuse(refused)
@@ -141,7 +141,7 @@ pub(crate) fn table_of(
 ) -> Result<Shared, ModelError>
     requires env { IsFitEnv env.now }
     requires table { IsTableOf env.now table }
-    ensures { Gives (spec.table_of env.now source.now action table tree.now) result }
+    ensures { GivesOrRunsOut (spec.table_of env.now source.now action table tree.now) result }
 {
     let accepted = accept(alloc, env, source, Role::Table(table), tree)?;
     check_table(

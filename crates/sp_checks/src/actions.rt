@@ -3,7 +3,7 @@
 ghost use Rattle.std.specs.Prelude.{◌≡◌, ◌≤◌, ◌<◌, ◌+◌, ◌++◌, [], ◌∷◌, length, IfOk, OnOk};
 ghost use Rattle.sp_names.specs.Names.{with_name};
 ghost use Rattle.sp_trees.specs.Words.{text};
-ghost use Rattle.sp_declarations.specs.Steps.{Gives, Leaves};
+ghost use Rattle.sp_declarations.specs.Steps.{GivesOrRunsOut, Leaves};
 ghost use Rattle.sp_checks.specs.Kept.{IsFitEnv};
 ghost use Rattle.sp_checks.specs.Actions as spec;
 
@@ -77,7 +77,7 @@ fn sight_step(
 /// A table for each observation variable.
 #[tactic(auto, using(sp_declarations::proofs::StepLemmas::turn_ok, sp_declarations::proofs::StepLemmas::turn_err, sp_declarations::proofs::StepLemmas::turns_over), unfolding(crate::specs::Actions::sights_of))]
 fn sights_of(alloc: Global, at: u64, tables: &[Option<Shared>]) -> Result<Funcs, ModelError>
-    ensures { Gives (spec.sights_of at tables.now) result }
+    ensures { GivesOrRunsOut (spec.sights_of at tables.now) result }
 {
     let mut sights = Funcs::new(alloc);
     for table in tables {
@@ -113,7 +113,7 @@ fn declare<'a>(
     source: &'a [u8],
     word: Span,
 ) -> Result<(), ModelError>
-    ensures refused { Gives (spec.checked_name source.now names.old count word) result }
+    ensures refused { GivesOrRunsOut (spec.checked_name source.now names.old count word) result }
     ensures names { OnOk result (names.new ≡ with_name names.old (text source.now word)) }
 {
     let is_new = names.declare(text(source, word))?;
@@ -131,7 +131,7 @@ fn draft_of(
     listed: Listed,
 ) -> Result<Draft, ModelError>
     requires { length listed.moves ≡ env.now.scope.variables }
-    ensures { Gives (spec.draft_of env.now source.now word end listed) result }
+    ensures { GivesOrRunsOut (spec.draft_of env.now source.now word end listed) result }
 {
     let sights = sights_of(alloc, end, listed.sights.as_slice())?;
     let moves = moves_of(alloc, &env.scope, listed.moves.as_slice())?;
@@ -156,7 +156,7 @@ fn draft(
     end: Span,
 ) -> Result<Draft, ModelError>
     requires { IsFitEnv env.now }
-    ensures { Gives (spec.draft env.now source.now action word list.now end) result }
+    ensures { GivesOrRunsOut (spec.draft env.now source.now action word list.now end) result }
 {
     let listed = items(alloc, env, source, action, list)?;
     draft_of(alloc, env, source, word, end.start, listed)

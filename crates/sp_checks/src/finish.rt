@@ -3,8 +3,8 @@
 ghost use Rattle.std.specs.Prelude.{◌≡◌, IfOk, IfSome, All};
 ghost use Rattle.sp_dd.specs.Func.{IsScope};
 ghost use Rattle.sp_trees.specs.Good.{IsFit};
-ghost use Rattle.sp_checks.specs.Kept.{IsState};
-ghost use Rattle.sp_declarations.specs.Steps.{Gives, Leaves};
+ghost use Rattle.sp_checks.specs.Kept.{IsReadingState};
+ghost use Rattle.sp_declarations.specs.Steps.{GivesOrRunsOut, Leaves};
 ghost use Rattle.sp_checks.specs.Finish as spec;
 
 use crate::state::{Draft, State};
@@ -53,7 +53,7 @@ fn reward_of(
     requires reward { IsFit scope.now reward.now }
     requires cost { IfSome draft.now.cost (IsFit scope.now) }
     requires scope { IsScope scope.now }
-    ensures { Gives (spec.checked_reward scope.now end reward.now draft.now) result }
+    ensures { GivesOrRunsOut (spec.checked_reward scope.now end reward.now draft.now) result }
 {
     let cost = or_zero(alloc, scope, &draft.cost)?;
     let made = less(alloc, reward.func(), cost.func())?;
@@ -73,7 +73,7 @@ fn action_part(
     requires reward { IsFit scope.now reward.now }
     requires cost { IfSome draft.now.cost (IsFit scope.now) }
     requires scope { IsScope scope.now }
-    ensures { Gives (spec.action_part scope.now end reward.now draft.now) result }
+    ensures { GivesOrRunsOut (spec.action_part scope.now end reward.now draft.now) result }
 {
     let reward = reward_of(alloc, scope, end, reward, draft)?;
     let name = Name::new(alloc, draft.name.bytes())?;
@@ -119,7 +119,7 @@ fn actions(
     requires reward { IsFit scope.now reward.now }
     requires costs { All (λ d. IfSome d.cost (IsFit scope.now)) drafts.now }
     requires scope { IsScope scope.now }
-    ensures { Gives (spec.actions scope.now end reward.now drafts.now) result }
+    ensures { GivesOrRunsOut (spec.actions scope.now end reward.now drafts.now) result }
 {
     let mut actions = Actions::new(alloc);
     for draft in drafts {
@@ -142,7 +142,7 @@ fn parts(
     requires reward { IfSome reward.now (IsFit env.scope) }
     requires costs { All (λ d. IfSome d.cost (IsFit env.scope)) drafts.now }
     requires scope { IsScope env.scope }
-    ensures { Gives (spec.parts env.entry end init discount reward.now drafts.now) result }
+    ensures { GivesOrRunsOut (spec.parts env.entry end init discount reward.now drafts.now) result }
 {
     let reward = or_zero(alloc, &env.scope, reward)?;
     let actions = actions(alloc, &env.scope, end, &reward, drafts)?;
@@ -159,8 +159,8 @@ fn parts(
 /// The parts of the model, unless something is missing or a reward is too large.
 #[tactic(auto, unfolding(crate::specs::Finish::finish))]
 pub(crate) fn finish(alloc: Global, end: u64, state: State<'_>) -> Result<Parts, ModelError>
-    requires { IsState state }
-    ensures { Gives (spec.finish state.entry end) result }
+    requires { IsReadingState state }
+    ensures { GivesOrRunsOut (spec.finish state.entry end) result }
 {
     let missing = ModelError::Fault {
         at: end,

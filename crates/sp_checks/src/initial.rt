@@ -2,9 +2,9 @@
 
 ghost use Rattle.std.specs.Prelude.{◌≡◌, ◌≤◌, ◌<◌, ◌^◌, ◌++◌, [], ◌∷◌, map, All, IfOk, OnOk, if◌then◌else◌};
 ghost use Rattle.sp_trees.specs.Good.{IfGood, IsEnv};
-ghost use Rattle.sp_declarations.specs.Steps.{Gives, Leaves};
+ghost use Rattle.sp_declarations.specs.Steps.{GivesOrRunsOut, Leaves};
 ghost use Rattle.sp_rows.specs.Tables.{own_count};
-ghost use Rattle.sp_checks.specs.Accepted.{seen};
+ghost use Rattle.sp_checks.specs.Accepted.{lent_answer};
 ghost use Rattle.sp_checks.specs.Kept.{IsFitEnv};
 ghost use Rattle.sp_checks.specs.Initial as spec;
 
@@ -71,7 +71,7 @@ fn has_every(variables: u64, mentions: Slots) -> bool
 
 /// What all factors mention.
 fn mentioned(shares: &[Share]) -> Slots
-    ensures { result ≡ spec.mentioned shares.now }
+    ensures { result ≡ spec.mentions_of_factors shares.now }
 {
     shares.iter().fold(Slots::none(), |all, share| all.union(share.judged.mentions))
 }
@@ -148,7 +148,7 @@ fn value_refusal(
 fn check_values(alloc: Global, at: u64, func: &Func, own: &Ids) -> Result<(), ModelError>
     requires own { All (λ i. i < func.now.shape.variables) own.now }
     requires few { own_count func.now.shape own.now ≤ 2 ^ 24 }
-    ensures { Gives (spec.checked_values at func.now own.now) result }
+    ensures { GivesOrRunsOut (spec.checked_values at func.now own.now) result }
 {
     let refused = value_refusal(alloc, at, func, own)?;
     refuse(refused)
@@ -158,7 +158,7 @@ fn check_values(alloc: Global, at: u64, func: &Func, own: &Ids) -> Result<(), Mo
 #[tactic(auto, using(crate::proofs::TableLemmas::few_variables))]
 fn check_share(env: &Env<'_>, used: Slots, share: &Share) -> Result<(), ModelError>
     requires { IsFitEnv env.now }
-    ensures { Gives (spec.checked_share env.now.scope.variables used share.now) result }
+    ensures { GivesOrRunsOut (spec.checked_share env.now.scope.variables used share.now) result }
 {
     let shared = refused_if(
         shares(env.scope.variables(), used, share.judged.mentions),
@@ -170,7 +170,7 @@ fn check_share(env: &Env<'_>, used: Slots, share: &Share) -> Result<(), ModelErr
 
 /// The function of a factor.
 fn func_of(share: &Share) -> Result<&Func, ModelError>
-    ensures value { Gives share.now.judged.outcome (seen result) }
+    ensures value { GivesOrRunsOut share.now.judged.outcome (lent_answer result) }
 {
     match &share.judged.outcome {
         Ok(func) => Ok(func.func()),
@@ -196,7 +196,7 @@ fn own_in(alloc: Global, env: &Env<'_>, share: &Share) -> Result<Ids, NoMemory>
 fn owned(alloc: Global, env: &Env<'_>, share: &Share, func: &Func) -> Result<Factor, ModelError>
     requires env { IsFitEnv env.now }
     requires shape { func.now.shape ≡ env.now.scope }
-    ensures { Gives (spec.owned env.now.scope.variables share.now func.now) result }
+    ensures { GivesOrRunsOut (spec.owned env.now.scope.variables share.now func.now) result }
 {
     let own = own_in(alloc, env, share)?;
     check_values(alloc, share.at, func, &own)?;
@@ -209,7 +209,7 @@ fn owned(alloc: Global, env: &Env<'_>, share: &Share, func: &Func) -> Result<Fac
 fn factor(alloc: Global, env: &Env<'_>, used: Slots, share: &Share) -> Result<Factor, ModelError>
     requires env { IsFitEnv env.now }
     requires good { IfGood env.now.scope share.now.judged }
-    ensures { Gives (spec.factor env.now.scope.variables used share.now) result }
+    ensures { GivesOrRunsOut (spec.factor env.now.scope.variables used share.now) result }
 {
     check_share(env, used, share)?;
     let func = func_of(share)?;
@@ -239,7 +239,7 @@ fn factor_step(
 fn factors_in_turn(alloc: Global, env: &Env<'_>, shares: &[Share]) -> Result<Factored, ModelError>
     requires env { IsFitEnv env.now }
     requires good { All (λ s. IfGood env.now.scope s.judged) shares.now }
-    ensures { Gives (spec.factors_in_turn env.now.scope.variables shares.now) result }
+    ensures { GivesOrRunsOut (spec.factors_in_turn env.now.scope.variables shares.now) result }
 {
     let mut factored = Factored {
         used: Slots::none(),
@@ -255,7 +255,7 @@ fn factors_in_turn(alloc: Global, env: &Env<'_>, shares: &[Share]) -> Result<Fac
 #[tactic(auto, using(crate::proofs::TableLemmas::few_variables))]
 fn check_every(env: &Env<'_>, at: u64, shares: &[Share]) -> Result<(), ModelError>
     requires { IsFitEnv env.now }
-    ensures { Gives (spec.checked_every env.now.scope.variables at shares.now) result }
+    ensures { GivesOrRunsOut (spec.checked_every env.now.scope.variables at shares.now) result }
 {
     refuse(refused_if(
         !has_every(env.scope.variables(), mentioned(shares)),
@@ -269,7 +269,7 @@ fn check_every(env: &Env<'_>, at: u64, shares: &[Share]) -> Result<(), ModelErro
 fn factors(alloc: Global, env: &Env<'_>, at: u64, shares: &[Share]) -> Result<Factors, ModelError>
     requires env { IsFitEnv env.now }
     requires good { All (λ s. IfGood env.now.scope s.judged) shares.now }
-    ensures { Gives (spec.factors env.now.scope.variables at shares.now) result }
+    ensures { GivesOrRunsOut (spec.factors env.now.scope.variables at shares.now) result }
 {
     check_every(env, at, shares)?;
     let factored = factors_in_turn(alloc, env, shares)?;
@@ -296,7 +296,7 @@ fn initial(
     tree: &Tree,
 ) -> Result<Factors, ModelError>
     requires { IsFitEnv env.now }
-    ensures { Gives (spec.factors env.now.scope.variables at (map (spec.share_of env.now source.now) (spec.factor_trees tree.now))) result }
+    ensures { GivesOrRunsOut (spec.factors env.now.scope.variables at (map (spec.share_of env.now source.now) (spec.factor_trees tree.now))) result }
 {
     let list = judged(alloc, env, source, factor_trees(tree))?;
     factors(alloc, env, at, list.as_slice())
@@ -304,7 +304,7 @@ fn initial(
 
 /// Whether the initial belief wasn't read before.
 fn check_init(state: &State<'_>, at: u64) -> Result<(), ModelError>
-    ensures { Gives (spec.checked_init state.now at) result }
+    ensures { GivesOrRunsOut (spec.checked_init state.now at) result }
 {
     refuse(refused_if(state.init.is_some(), at, ModelKind::RepeatedName))
 }

@@ -2,7 +2,7 @@
 
 ghost use Rattle.std.specs.Prelude.{◌≡◌, ◌<◌, ◌++◌, [], ◌∷◌, is_some, replicate, length, slice_index_or, slice_set, Some, None, IfOk};
 ghost use Rattle.sp_trees.specs.Nodes.{IsPlace};
-ghost use Rattle.sp_declarations.specs.Steps.{Gives, Leaves};
+ghost use Rattle.sp_declarations.specs.Steps.{GivesOrRunsOut, Leaves};
 ghost use Rattle.sp_checks.specs.Kept.{IsFitEnv, IsListing};
 ghost use Rattle.sp_checks.specs.Actions as spec;
 
@@ -94,7 +94,7 @@ fn is_listed(listed: &Listed, place: Place) -> bool
 /// A variable that isn't listed yet.
 fn unlisted(listed: &Listed, at: u64, place: Place) -> Result<Place, ModelError>
     requires { spec.IsInRange listed.now place }
-    ensures { Gives (spec.unlisted listed.now at place) result }
+    ensures { GivesOrRunsOut (spec.unlisted_place listed.now at place) result }
 {
     if is_listed(listed, place) {
         return Err(ModelError::Fault {
@@ -109,7 +109,7 @@ fn unlisted(listed: &Listed, at: u64, place: Place) -> Result<Place, ModelError>
 #[tactic(auto, using(crate::proofs::ItemLemmas::named_some, crate::proofs::ItemLemmas::named_none, crate::proofs::ItemLemmas::in_range))]
 fn named(env: &Env<'_>, source: &[u8], listed: &Listed, word: Span) -> Result<Place, ModelError>
     requires { IsListing env.now listed.now }
-    ensures value { Gives (spec.named env.now source.now listed.now word) result }
+    ensures value { GivesOrRunsOut (spec.place_of_name env.now source.now listed.now word) result }
     ensures within { IfOk result (IsPlace env.now) }
 {
     match place_of(env, text(source, word)) {
@@ -219,7 +219,7 @@ fn observed(
 ) -> Result<(), ModelError>
     requires env { IsFitEnv env.now }
     requires listed { IsListing env.now listed.old }
-    ensures { Leaves (spec.observed env.now source.now listed.old next.now) result listed.new }
+    ensures { Leaves (spec.observe_entry env.now source.now listed.old next.now) result listed.new }
 {
     let place = named(env, source, listed, next.name)?;
     observed_at(alloc, env, source, listed, next, place)
@@ -274,7 +274,7 @@ fn observe(
 
 /// Whether no cost was listed before.
 fn check_cost(listed: &Listed, at: u64) -> Result<(), ModelError>
-    ensures { Gives (spec.checked_cost listed.now at) result }
+    ensures { GivesOrRunsOut (spec.checked_cost listed.now at) result }
 {
     refuse(refused_if(listed.cost.is_some(), at, ModelKind::RepeatedName))
 }
@@ -344,7 +344,7 @@ pub(crate) fn items(
     list: &[Item],
 ) -> Result<Listed, ModelError>
     requires { IsFitEnv env.now }
-    ensures value { Gives (spec.items env.now source.now action list.now) result }
+    ensures value { GivesOrRunsOut (spec.items env.now source.now action list.now) result }
     ensures count { IfOk result (λ l. length l.moves ≡ env.now.scope.variables) }
 {
     let mut listed = nothing_listed(alloc, env, action)?;

@@ -2,15 +2,15 @@
 
 ghost use Rattle.std.specs.Prelude.{◌≡◌, ◌++◌, [], ◌∷◌, IfOk, OnOk, All};
 ghost use Rattle.sp_dd.specs.Func.{IsScope};
-ghost use Rattle.sp_model.specs.Problem.{doubled, sizes_of};
+ghost use Rattle.sp_model.specs.Problem.{twice_each, sizes_of};
 ghost use Rattle.sp_model.specs.Kept.{IsModel};
 ghost use Rattle.sp_trees.specs.Good.{shape_for};
-ghost use Rattle.sp_checks.specs.Kept.{IsState};
+ghost use Rattle.sp_checks.specs.Kept.{IsReadingState};
 ghost use Rattle.sp_checks.specs.Sections as spec;
-ghost use Rattle.sp_declarations.specs.Steps.{Gives, Leaves, in_turn};
+ghost use Rattle.sp_declarations.specs.Steps.{GivesOrRunsOut, Leaves, in_turn};
 ghost use Rattle.sp_checks.specs.Source.{HasName, HasWords, IsTextOf};
 ghost use Rattle.sp_checks.specs.Meaning.{meaning};
-ghost use Rattle.sp_checks.specs.Answers.{Answers};
+ghost use Rattle.sp_checks.specs.Answers.{AnswersText};
 
 use crate::finish::finish;
 use crate::sections::section;
@@ -36,7 +36,7 @@ fn push_pair(sizes: &mut Ids, size: u64) -> Result<(), NoMemory>
 /// Each number of values twice.
 #[tactic(auto, using(crate::proofs::StartLemmas::twice_more, crate::proofs::StartLemmas::twice_all, crate::proofs::StartLemmas::twice_none))]
 fn push_twice(sizes: &mut Ids, decls: &[Decl]) -> Result<(), NoMemory>
-    ensures { OnOk result (sizes.new ≡ sizes.old ++ doubled (sizes_of decls.now)) }
+    ensures { OnOk result (sizes.new ≡ sizes.old ++ twice_each (sizes_of decls.now)) }
 {
     for decl in decls {
         push_pair(sizes, decl.values.len())?;
@@ -99,10 +99,10 @@ fn sections<'a>(
     state: &mut State<'a>,
     list: &[Section],
 ) -> Result<(), ModelError>
-    requires state { IsState state.old }
+    requires state { IsReadingState state.old }
     requires named { All (HasName source.now) list.now }
     ensures value { Leaves (in_turn (spec.section source.now) state.old list.now) result state.new }
-    ensures state { OnOk result (IsState state.new) }
+    ensures state { OnOk result (IsReadingState state.new) }
 {
     for next in list {
         section(alloc, source, state, next)?;
@@ -114,7 +114,7 @@ fn sections<'a>(
 #[tactic(auto, using(crate::proofs::ReadingLemmas::declared_err, crate::proofs::ReadingLemmas::sections_err, crate::proofs::ReadingLemmas::meaning_then))]
 fn parts_of(alloc: Global, source: &[u8], text: &Text) -> Result<Parts, ModelError>
     requires { HasWords source.now text.now }
-    ensures value { Gives (meaning source.now text.now) result }
+    ensures value { GivesOrRunsOut (meaning source.now text.now) result }
     ensures model { IfOk result IsModel }
 {
     let declared = declarations_of(alloc, source, text)?;
@@ -126,7 +126,7 @@ fn parts_of(alloc: Global, source: &[u8], text: &Text) -> Result<Parts, ModelErr
 /// The model of a text, or the refusal that comes first.
 pub fn model_of(alloc: Global, source: &[u8], text: &Text) -> Result<Model, ModelError>
     requires { IsTextOf source.now text.now }
-    ensures { Answers source.now text.now result }
+    ensures { AnswersText source.now text.now result }
 {
     tokens_by_place(source);
     let parts = parts_of(alloc, source, text)?;

@@ -85,7 +85,7 @@ fn with_slot(set: Slots, test: bool, slot: u64) -> Slots
 #[tactic(auto, using(crate::proofs::RoleLemmas::no_slot, crate::proofs::RoleLemmas::one_slot_more))]
 pub(crate) fn allowed(scope: &Scope, role: Role) -> Slots
     requires { spec.IsSmallRole role }
-    ensures { result ≡ spec.allowed scope.now role }
+    ensures { result ≡ spec.allowed_slots scope.now role }
 {
     let variables = scope.variables();
     let mut allowed = Slots::none();

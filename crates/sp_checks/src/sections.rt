@@ -2,8 +2,8 @@
 
 ghost use Rattle.std.specs.Prelude.{◌≡◌, ◌++◌, [], ◌∷◌, None, IfOk};
 ghost use Rattle.sp_trees.specs.Words.{text};
-ghost use Rattle.sp_trees.specs.Dds.{found};
-ghost use Rattle.sp_declarations.specs.Steps.{Gives, Leaves};
+ghost use Rattle.sp_trees.specs.Dds.{dd_of_name};
+ghost use Rattle.sp_declarations.specs.Steps.{GivesOrRunsOut, Leaves};
 ghost use Rattle.sp_checks.specs.Kept.{IsFitEnv};
 ghost use Rattle.sp_checks.specs.Sections as spec;
 
@@ -23,8 +23,8 @@ const MOST_DISCOUNT: i128 = 999_000_000;
 
 /// Whether no dd of that name was declared before.
 fn check_dd(dds: &Dds<'_>, source: &[u8], word: Span) -> Result<(), ModelError>
-    ensures refused { Gives (spec.checked_dd source.now dds.now word) result }
-    ensures new { IfOk result (λ _. found (text source.now word) dds.now ≡ None) }
+    ensures refused { GivesOrRunsOut (spec.checked_dd source.now dds.now word) result }
+    ensures new { IfOk result (λ _. dd_of_name (text source.now word) dds.now ≡ None) }
 {
     if dds.find(text(source, word)).is_some() {
         return Err(ModelError::Fault {
@@ -59,7 +59,7 @@ fn dd<'a>(
 
 /// Whether no reward was read before.
 fn check_reward(state: &State<'_>, at: u64) -> Result<(), ModelError>
-    ensures { Gives (spec.checked_reward state.now at) result }
+    ensures { GivesOrRunsOut (spec.checked_reward state.now at) result }
 {
     refuse(refused_if(state.reward.is_some(), at, ModelKind::RepeatedName))
 }
@@ -94,7 +94,7 @@ fn number_kind(error: NumError) -> ModelKind
 
 /// A discount within its range.
 fn within_range(at: u64, ticks: i128) -> Result<u64, ModelError>
-    ensures { Gives (spec.within_range at ticks) result }
+    ensures { GivesOrRunsOut (spec.within_range at ticks) result }
 {
     if 0 <= ticks && ticks <= MOST_DISCOUNT {
         Ok(ticks as u64)
@@ -109,7 +109,7 @@ fn within_range(at: u64, ticks: i128) -> Result<u64, ModelError>
 /// The ticks of a discount's word.
 #[tactic(auto, unfolding(crate::specs::Sections::discount_of))]
 fn discount_of(source: &[u8], word: Span) -> Result<u64, ModelError>
-    ensures { Gives (spec.discount_of source.now word) result }
+    ensures { GivesOrRunsOut (spec.discount_of source.now word) result }
 {
     match ticks(text(source, word)) {
         Ok(value) => within_range(word.start, value),
@@ -122,7 +122,7 @@ fn discount_of(source: &[u8], word: Span) -> Result<u64, ModelError>
 
 /// Whether no discount was read before.
 fn check_discount(state: &State<'_>, at: u64) -> Result<(), ModelError>
-    ensures { Gives (spec.checked_discount state.now at) result }
+    ensures { GivesOrRunsOut (spec.checked_discount state.now at) result }
 {
     refuse(refused_if(state.discount.is_some(), at, ModelKind::RepeatedName))
 }

@@ -21,9 +21,9 @@ first_of [] = 0
 first_of (x ∷ xs) = x
 
 -- the list with its first number moved to its end
-abbrev pub turned : List ℕ → List ℕ
-turned [] = []
-turned (x ∷ xs) = xs ++ x ∷ []
+abbrev pub rotation : List ℕ → List ℕ
+rotation [] = []
+rotation (x ∷ xs) = xs ++ x ∷ []
 
 -- ---- the choosers
 -- the word modulo the number of actions, whatever was asked before
@@ -39,9 +39,9 @@ sweep kept = record {
 }
 
 -- the numbers of a list in turn, around its end, each modulo the number of actions; 0 where the list is empty
-abbrev pub listed : List ℕ → Machine
-listed rest = record {
+abbrev pub list_machine : List ℕ → Machine
+list_machine rest = record {
   opening = rest;
   answer = λ state depth actions word. first_of state % actions;
-  after = λ state depth actions word. turned state;
+  after = λ state depth actions word. rotation state;
 }

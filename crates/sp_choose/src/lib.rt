@@ -4,7 +4,7 @@
 #![tactic(auto)]
 
 ghost use Rattle.std.specs.Prelude.{◌≡◌, ◌<◌};
-ghost use Rattle.sp_choose.specs.Machines.{Machine, answer_of, after_answer, uniform, sweep, listed};
+ghost use Rattle.sp_choose.specs.Machines.{Machine, answer_of, after_answer, uniform, sweep, list_machine};
 
 use sp_dd::Ids;
 use std::marker::Model;
@@ -95,7 +95,7 @@ impl Listed {
 }
 
 impl Chooser for Listed {
-    ghost machine = { listed };
+    ghost machine = { list_machine };
 
     fn choose(&mut self, _depth: u64, actions: u64, _word: u64) -> u64 {
         if self.list.len() == 0 {

@@ -11,12 +11,12 @@ use Rattle.sp_ledger.specs.Accounts.{AreWorths}
 use Rattle.sp_ledger.specs.Opening.{first_member, first_edition}
 use Rattle.sp_ledger.proofs.Leaf.{least_agrees}
 use Rattle.sp_ledger.proofs.Numbers.{down_at, first_numbered}
-use Rattle.sp_core.specs.Ledgers.{Contents, IsLedger}
+use Rattle.sp_core.specs.Ledgers.{LedgerContents, IsLedger}
 use Rattle.sp_core.proofs.Opened.{run_opening}
 
 module _ (t : TaskParts) (is : IsTask t) (scope : IsScope (shape_of t.model)) where
   -- the contents of a ledger before any event
-  abbrev first_contents : List ℤ → Contents
+  abbrev first_contents : List ℤ → LedgerContents
   first_contents values = record {
     task = t;
     events = [];
@@ -32,7 +32,7 @@ module _ (t : TaskParts) (is : IsTask t) (scope : IsScope (shape_of t.model)) wh
     done = false;
   }
 
-  pub first_ledger : (c : Contents) → c ≡ first_contents c.latest_values → length c.latest_values ≡ t.options.beliefs → AreWorths (task_of t) (vector_of t.model (first_member t).vector) c.latest_values → IsLedger c
+  pub first_ledger : (c : LedgerContents) → c ≡ first_contents c.latest_values → length c.latest_values ≡ t.options.beliefs → AreWorths (task_of t) (vector_of t.model (first_member t).vector) c.latest_values → IsLedger c
   first_ledger c same count worths = subst IsLedger (sym same) (record {
     task = is;
     running = run_opening (task_of t) (member_of t.model (first_member t)) (least_agrees t.model is.model scope t refl) (replicate t.options.beliefs false) c.latest_values (replicate t.options.beliefs (pos 0))

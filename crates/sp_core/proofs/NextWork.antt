@@ -4,11 +4,11 @@ use Rattle.sp_theory.specs.OneThread.{IsBetweenTurns, all_improved, picked}
 use Rattle.sp_theory.proofs.OneThread.{picked_below}
 use Rattle.sp_value.specs.Tasks.{task_of}
 use Rattle.sp_core.specs.Books.{state_of}
-use Rattle.sp_core.specs.Ledgers.{Contents, account_in, parts_in, IsLedger}
+use Rattle.sp_core.specs.Ledgers.{LedgerContents, account_in, parts_in, IsLedger}
 use Rattle.sp_core.specs.Marks.{marks_of, neither, picked_from}
 use Rattle.sp_core.proofs.Picked.{picked_is, some_down}
 
-module _ (c : Contents) (ledger : IsLedger c) where
+module _ (c : LedgerContents) (ledger : IsLedger c) where
   pub work_is : (word : ℕ) → picked (task_of c.task) (state_of (parts_in c)) (marks_of c.taken) word ≡ picked_from c.improved c.taken word
   work_is word = picked_is (task_of c.task) (state_of (parts_in c)) (account_in c) ledger.running.replayed.account c.taken word
 

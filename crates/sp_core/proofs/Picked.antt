@@ -3,19 +3,19 @@ use Rattle.std.proofs.Common.{◌≡◌, ◌∙◌, sym, ap, subst, arith, ℕ, 
 use Rattle.std.specs.Prelude.{filter}
 use Rattle.std.specs.List.{range_with_len}
 use Rattle.sp_theory.specs.Book.{Task, Book}
-use Rattle.sp_theory.specs.OneThread.{unmarked, open_beliefs, picked, all_improved}
+use Rattle.sp_theory.specs.OneThread.{beliefs_without_mark, open_beliefs, picked, all_improved}
 use Rattle.sp_theory.proofs.Extremes.{holds_below_not}
 use Rattle.sp_ledger.specs.Accounts.{Account, IsAccount}
 use Rattle.sp_core.specs.Marks.{marks_of, is_free, neither, open_numbers, picked_from}
 use Rattle.sp_core.proofs.Counting.{filter_same, stands_at}
 
 module _ (t : Task) (b : Book) (f : Account) (of : IsAccount t b f) (taken : List Bool) where
-  unmarked_is : unmarked t (λ k. b.improved k || marks_of taken k) ≡ neither f.improved taken
+  unmarked_is : beliefs_without_mark t (λ k. b.improved k || marks_of taken k) ≡ neither f.improved taken
   unmarked_is =
       filter_same _ (is_free f.improved taken) t.beliefs (λ k less. ap (λ (c : Bool). not (c || get_or taken k false)) (sym (of.improved k less)))
       ∙ ap (λ (n : ℕ). filter (is_free f.improved taken) (range_with_len 0 n)) (sym of.flags)
 
-  down_is : unmarked t b.improved ≡ neither f.improved f.improved
+  down_is : beliefs_without_mark t b.improved ≡ neither f.improved f.improved
   down_is =
       filter_same _ (is_free f.improved f.improved) t.beliefs (λ k less. ap not (twice (b.improved k) (get_or f.improved k false) (of.improved k less)))
       ∙ ap (λ (n : ℕ). filter (is_free f.improved f.improved) (range_with_len 0 n)) (sym of.flags)

@@ -11,11 +11,11 @@ use Rattle.sp_ledger.proofs.Numbers as numbers
 use Rattle.sp_ledger.proofs.Ours.{own_member}
 use Rattle.sp_ledger.proofs.Reading as reading
 use Rattle.sp_core.specs.Books.{state_of}
-use Rattle.sp_core.specs.Ledgers.{Contents, account_in, parts_in, IsLedger}
+use Rattle.sp_core.specs.Ledgers.{LedgerContents, account_in, parts_in, IsLedger}
 use Rattle.sp_core.specs.Settling.{IsOurs}
 use Rattle.sp_core.specs.Plans.{new_member, IsGreatestAtBelief}
 
-module _ (c : Contents) (ledger : IsLedger c) where
+module _ (c : LedgerContents) (ledger : IsLedger c) where
   -- there is an edition
   pub some_edition : 0 < length c.editions
   some_edition = numbers.some_edition c.task (state_of (parts_in c)) (account_in c) ledger.running.replayed.account c.editions refl

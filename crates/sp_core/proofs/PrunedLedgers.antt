@@ -23,7 +23,7 @@ use Rattle.sp_core.specs.Running.{IsRunning}
 use Rattle.sp_core.specs.Books.{BookParts, state_of}
 use Rattle.sp_drops.specs.Drops.{applying_ids, goes, left_by}
 use Rattle.sp_core.specs.Dominated.{AreDominatedPairs}
-use Rattle.sp_core.specs.Ledgers.{Contents, parts_in, account_in, IsLedger}
+use Rattle.sp_core.specs.Ledgers.{LedgerContents, parts_in, account_in, IsLedger}
 use Rattle.sp_core.specs.Settling.{IsOurs}
 use Rattle.sp_core.specs.Pruning.{AreDominatedIn, IsPruneOf, IsPruned, latest_in, left_in, pruned_in}
 use Rattle.sp_ledger.proofs.Numbers.{numbered_more}
@@ -34,7 +34,7 @@ use Rattle.sp_ledger.proofs.Distinct.{tidy_book}
 use Rattle.sp_core.proofs.Preparing.{some_edition, latest_task, latest_members}
 use Rattle.sp_core.proofs.PairLists.{pruned_members, applying_members}
 
-module _ (c : Contents) (ledger : IsLedger c) where
+module _ (c : LedgerContents) (ledger : IsLedger c) where
   abbrev t : Task
   t = task_of c.task
 
@@ -125,12 +125,12 @@ module _ (c : Contents) (ledger : IsLedger c) where
         by_list [] none = (refl, refl)
         by_list (p ∷ ps) none = absurd (omega arith)
 
-    pub some_pruned : (applied : List (ℕ × ℕ)) → applied ≡ applying (last_of f.editions) pairs → 0 < length applied → (d : Contents) → d ≡ pruned_in c applied → (count : ℕ) → count ≡ length applied
+    pub some_pruned : (applied : List (ℕ × ℕ)) → applied ≡ applying (last_of f.editions) pairs → 0 < length applied → (d : LedgerContents) → d ≡ pruned_in c applied → (count : ℕ) → count ≡ length applied
         → IsLedger d × IsPruned (parts_in c) e pairs (Dropped count) (parts_in d)
     some_pruned applied is more d is_d count is_count = (
       subst IsLedger (sym is_d) (pruned_ledger applied is more),
       on (Dropped count) (parts_in d) (subst (λ (ps : List (ℕ × ℕ)). IsPruneOf (parts_in c) ps (Dropped count) (parts_in d)) (is ∙ applied_same)
-          (subst (λ (x : Contents). IsPruneOf (parts_in c) applied (Dropped count) (parts_in x)) (sym is_d) (subst (λ (n : ℕ). IsPruneOf (parts_in c) applied (Dropped n) (parts_in (pruned_in c applied))) (sym is_count) (by_list applied more)))),
+          (subst (λ (x : LedgerContents). IsPruneOf (parts_in c) applied (Dropped count) (parts_in x)) (sym is_d) (subst (λ (n : ℕ). IsPruneOf (parts_in c) applied (Dropped n) (parts_in (pruned_in c applied))) (sym is_count) (by_list applied more)))),
     )
       where
         by_list : (ps : List (ℕ × ℕ)) → 0 < length ps → IsPruneOf (parts_in c) ps (Dropped (length ps)) (parts_in (pruned_in c ps))

@@ -6,7 +6,7 @@ use Rattle.sp_theory.specs.Backup.{IsBackup}
 use Rattle.sp_theory.specs.Book.{Task, Book, Event, settle, publish, end, opening, after_event}
 use Rattle.sp_theory.specs.Runs.{replay}
 use Rattle.sp_theory.specs.OneThread.{IsBetweenTurns, all_improved, due_events}
-use Rattle.sp_theory.specs.Laws.{GoesOn}
+use Rattle.sp_theory.specs.Laws.{EventsGoOn}
 use Rattle.sp_theory.proofs.Extremes.{holds_below_at, holds_below_all}
 use Rattle.sp_theory.proofs.Histories.{replay-append, IsHistory-append, IsPrompt-append}
 use Rattle.sp_theory.proofs.OneThread.{settle_goes_after}
@@ -20,7 +20,7 @@ module _ (t : Task) (es : List Event) (f : Account) (run : IsRunning t es f) whe
   book = replay t (opening t) es
 
   -- events that go on
-  pub goes_on : (more : List Event) (g : Account) → GoesOn t (replay t (opening t) es) more → IsAccount t (replay t (replay t (opening t) es) more) g → IsRunning t (es ++ more) g
+  pub goes_on : (more : List Event) (g : Account) → EventsGoOn t (replay t (opening t) es) more → IsAccount t (replay t (replay t (opening t) es) more) g → IsRunning t (es ++ more) g
   goes_on more g goes account = record {
     replayed = record {
       history = IsHistory-append t (opening t) es more run.replayed.history goes.0;
@@ -36,13 +36,13 @@ module _ (t : Task) (es : List Event) (f : Account) (run : IsRunning t es f) whe
     next = after_event t book (settle k e a links)
 
     -- ---- what is due after the settle
-    settle_goes : GoesOn t book (settle k e a links ∷ due_events t false next)
+    settle_goes : EventsGoOn t book (settle k e a links ∷ due_events t false next)
     settle_goes = settle_goes_after t lawful some es run.replayed.history run.turns k e a links (settle_allowed t es f run.replayed lawful some going k e a links within exists backup) false
 
     -- the settle with these events, which are due
     with_due : (g : Account) (due : List Event) → due_events t false next ≡ due → IsAccount t (replay t next due) g → IsRunning t (es ++ settle k e a links ∷ due) g
     unfolding replay
-    with_due g due is account = goes_on (settle k e a links ∷ due) g (subst (λ (ds : List Event). GoesOn t book (settle k e a links ∷ ds)) is settle_goes) account
+    with_due g due is account = goes_on (settle k e a links ∷ due) g (subst (λ (ds : List Event). EventsGoOn t book (settle k e a links ∷ ds)) is settle_goes) account
 
     -- a flag is still down
     pub still_down : (g : Account) → IsAccount t next g → (j : ℕ) → j < t.beliefs → get_or g.improved j false ≡ false → all_improved t (after_event t (replay t (opening t) es) (settle k e a links)) ≡ false

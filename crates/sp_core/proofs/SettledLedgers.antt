@@ -29,9 +29,9 @@ use Rattle.sp_ledger.specs.Choices.{by_choice}
 use Rattle.sp_ledger.specs.Opening.{AreNumbered}
 use Rattle.sp_ledger.proofs.Numbers.{numbered_more, down_at}
 use Rattle.sp_core.specs.Books.{state_of}
-use Rattle.sp_core.specs.Ledgers.{Contents, parts_in, account_in, IsLedger, recorded, with_member, is_last, published, entered_with}
+use Rattle.sp_core.specs.Ledgers.{LedgerContents, parts_in, account_in, IsLedger, contents_with_event, with_member, is_last, contents_with_publication, entered_with}
 use Rattle.sp_core.specs.Settling.{IsOurs, settle_of, events_for, answer_for, taken_after, IsSettled, IsSettledBy}
-use Rattle.sp_core.specs.Plans.{is_up, IsDue, new_member, choice_for, IsGreatestAtBelief, IsPlan, after_plan, answer_to}
+use Rattle.sp_core.specs.Plans.{is_up, IsDue, new_member, choice_for, IsGreatestAtBelief, IsSettlePlan, after_plan, answer_to}
 use Rattle.sp_core.proofs.Running.{still_down, nothing_due, all_up, publication_due, end_due}
 use Rattle.sp_ledger.proofs.Entering.{account_late, account_new, account_kept, book_chooses}
 use Rattle.sp_ledger.proofs.Replaying.{latest_agrees}
@@ -40,7 +40,7 @@ use Rattle.sp_ledger.proofs.Ours.{own_exists, own_belief, own_backup, own_steppe
 use Rattle.sp_ledger.proofs.Distinct.{different_with, tidy_book, next_new, greatest_new}
 
 -- a ledger that a settle with what is due has changed
-pub record IsSettledLedger (c : Contents) (d : CandidateParts) (e : Contents) : Type 0 where
+pub record IsSettledLedger (c : LedgerContents) (d : CandidateParts) (e : LedgerContents) : Type 0 where
   pub ledger : IsLedger e
   pub task : e.task ≡ c.task
   pub history : e.events ≡ c.events ++ events_for (parts_in c) d
@@ -53,7 +53,7 @@ old_down true true l e = absurd (cc)
 old_down true false l e = absurd (cc)
 old_down false g l e = refl
 
-module _ (c : Contents) (ledger : IsLedger c) (going : c.done ≡ false) (d : CandidateParts) (is : IsCandidate d) (ours : IsOurs (parts_in c) d.base) where
+module _ (c : LedgerContents) (ledger : IsLedger c) (going : c.done ≡ false) (d : CandidateParts) (is : IsCandidate d) (ours : IsOurs (parts_in c) d.base) where
   abbrev t : Task
   t = task_of c.task
 
@@ -86,8 +86,8 @@ module _ (c : Contents) (ledger : IsLedger c) (going : c.done ≡ false) (d : Ca
   abbrev next : Book
   next = after_event t book (settle_of d)
 
-  abbrev first : Contents
-  first = recorded c (settle_of d)
+  abbrev first : LedgerContents
+  first = contents_with_event c (settle_of d)
 
   account_entered_is : (x : Member) → account_in (with_member first x)
       ≡ record f { records = c.records + 1; grown = f.grown ++ member_of c.task.model x ∷ []; improved = map (raised_at c.worths c.latest_values c.improved) (range_with_len 0 (length c.improved)); grown_values = map (lifted_to (eqb (length f.grown) 0) c.worths c.grown_values) (range_with_len 0 (length c.grown_values)) }
@@ -116,7 +116,7 @@ module _ (c : Contents) (ledger : IsLedger c) (going : c.done ≡ false) (d : Ca
   few : c.records + 1 ≤ length (c.events ++ settle_of d ∷ []) + 1
   few = let before = ledger.few in omega (arith, before, length-append c.events (settle_of d ∷ []))
 
-  undue : (e : Contents) → e.task ≡ c.task → e.events ≡ c.events ++ settle_of d ∷ [] → e.editions ≡ c.editions → e.taken ≡ c.taken → length e.worths ≡ length c.worths → e.records ≡ c.records + 1 → All (IsMemberOf e.task.model) e.grown
+  undue : (e : LedgerContents) → e.task ≡ c.task → e.events ≡ c.events ++ settle_of d ∷ [] → e.editions ≡ c.editions → e.taken ≡ c.taken → length e.worths ≡ length c.worths → e.records ≡ c.records + 1 → All (IsMemberOf e.task.model) e.grown
       → IsAccount t next (account_in e) → (j : ℕ) → j < t.beliefs → get_or e.improved j false ≡ false → IsSettledLedger c d e
   undue e task events editions taken worths records grown account j less down =
       let still = still_down t c.events f ledger.running lawful some going d.belief d.base.number d.action d.links within (own_exists c.task c.editions ledger.numbered d.base ours) (own_backup c.task c.editions ledger.numbered d is ours) (account_in e) account j less down in
@@ -151,7 +151,7 @@ module _ (c : Contents) (ledger : IsLedger c) (going : c.done ≡ false) (d : Ca
 
   -- ---- a member enters
   module _ (x : Member) (known : IsMemberOf c.task.model x) (enters : Enters x) where
-    abbrev with_x : Contents
+    abbrev with_x : LedgerContents
     with_x = with_member first x
 
     raised : (j : ℕ) → j < length c.improved → get_or with_x.improved j false ≡ is_up c j
@@ -165,7 +165,7 @@ module _ (c : Contents) (ledger : IsLedger c) (going : c.done ≡ false) (d : Ca
 
     module _ (e : EditionParts) (up : (j : ℕ) → j < length c.improved → is_up c j ≡ true) (is_next : e ≡ record { number = length c.editions; task = c.task; members = c.grown ++ x ∷ [] }) where
       -- published, and over or not
-      abbrev made : Bool → Contents
+      abbrev made : Bool → LedgerContents
       made b = record with_x {
         events = with_x.events ++ publish ∷ cond b (end ∷ []) [];
         editions = c.editions ++ e ∷ [];
@@ -216,7 +216,7 @@ module _ (c : Contents) (ledger : IsLedger c) (going : c.done ≡ false) (d : Ca
             taken = ap (λ (q : Bool). cond q (replicate (length c.taken) false) c.taken) (sym is_raised);
           }
 
-      settled_due : IsSettledLedger c d (published with_x e)
+      settled_due : IsSettledLedger c d (contents_with_publication with_x e)
       settled_due = by_last (is_last with_x) refl
         where
           count : length (replicate (length with_x.improved) false) ≡ t.beliefs
@@ -239,7 +239,7 @@ module _ (c : Contents) (ledger : IsLedger c) (going : c.done ≡ false) (d : Ca
     settled_entered (Some e) (up, is_next) = settled_due e up is_next
 
   -- ---- the plan
-  pub settled_plan : (plan : Plan) → IsPlan c d plan → IsSettledLedger c d (after_plan c d plan)
+  pub settled_plan : (plan : Plan) → IsSettlePlan c d plan → IsSettledLedger c d (after_plan c d plan)
   settled_plan RecordOnly chosen = settled_record_only chosen
   settled_plan (EnterNew e) (chosen, entry) = settled_entered (new_member c d) entry.known (new_enters chosen entry.worths) (option_map arc_value e) entry.due
   settled_plan (EnterOld x e) (chosen, greatest, entry) = settled_entered x entry.known (old_enters chosen x greatest entry.worths) (option_map arc_value e) entry.due
@@ -251,31 +251,31 @@ module _ (c : Contents) (ledger : IsLedger c) (going : c.done ≡ false) (d : Ca
   chosen_answer : (choice : Choice) → choice_for c d ≡ choice → answer_for (parts_in c) d ≡ by_choice choice Late (Added (length book.records)) (Kept (theory.greatest_member t.model book.latest (t.samples d.belief)).id)
   chosen_answer choice chosen = book_chooses t c.events f ledger.running.replayed lawful some going d.belief d.base.number d.action d.links within (own_exists c.task c.editions ledger.numbered d.base ours) (own_backup c.task c.editions ledger.numbered d is ours) (vector_of c.task.model d.vector) (own_stepped c.task c.editions ledger.numbered d is ours) choice chosen Late (Added (length book.records)) (Kept (theory.greatest_member t.model book.latest (t.samples d.belief)).id)
 
-  pub answer_plan : (plan : Plan) → IsPlan c d plan → answer_to c plan ≡ answer_for (parts_in c) d
+  pub answer_plan : (plan : Plan) → IsSettlePlan c d plan → answer_to c plan ≡ answer_for (parts_in c) d
   answer_plan RecordOnly chosen = sym (chosen_answer Neither chosen)
   answer_plan (EnterNew e) (chosen, entry) = ap Added ledger.running.replayed.account.records ∙ sym (chosen_answer New chosen)
   answer_plan (EnterOld x e) (chosen, greatest, entry) = ap Kept (old_id x greatest) ∙ sym (chosen_answer Old chosen)
 
 -- other worths change nothing else
-pub with_worths : (c : Contents) (ws : List ℤ) → length ws ≡ length c.worths → IsLedger c → IsLedger (record c { worths = ws })
+pub with_worths : (c : LedgerContents) (ws : List ℤ) → length ws ≡ length c.worths → IsLedger c → IsLedger (record c { worths = ws })
 with_worths c ws count ledger = record { task = ledger.task; running = ledger.running; numbered = ledger.numbered; grown = ledger.grown; taken = ledger.taken; worths = count ∙ ledger.worths; few = ledger.few }
 
-pub same_ledger : (c d : Contents) (ws : List ℤ) → length ws ≡ length c.worths → IsLedger c → d ≡ record c { worths = ws } → IsLedger d
+pub same_ledger : (c d : LedgerContents) (ws : List ℤ) → length ws ≡ length c.worths → IsLedger c → d ≡ record c { worths = ws } → IsLedger d
 same_ledger c d ws count ledger is = subst IsLedger (sym is) (with_worths c ws count ledger)
 
 -- a settle that was planned and done
-pub settled_all : (c planned done : Contents) (ws : List ℤ) → IsLedger c → c.done ≡ false → planned ≡ record c { worths = ws } → length ws ≡ length c.worths
-    → (d : CandidateParts) → IsCandidate d → IsOurs (parts_in c) d.base → (plan : Plan) → IsPlan planned d plan → done ≡ after_plan planned d plan → (answer : Settled) → answer ≡ answer_to planned plan
+pub settled_all : (c planned done : LedgerContents) (ws : List ℤ) → IsLedger c → c.done ≡ false → planned ≡ record c { worths = ws } → length ws ≡ length c.worths
+    → (d : CandidateParts) → IsCandidate d → IsOurs (parts_in c) d.base → (plan : Plan) → IsSettlePlan planned d plan → done ≡ after_plan planned d plan → (answer : Settled) → answer ≡ answer_to planned plan
     → IsLedger done × IsSettled (parts_in c) d answer (parts_in done)
 settled_all c planned done ws ledger going is count d known ours plan fits is_done answer is_answer =
-    let own : Contents = record c { worths = ws } in
+    let own : LedgerContents = record c { worths = ws } in
     let good = with_worths c ws count ledger in
-    let fit = subst (λ (x : Contents). IsPlan x d plan) is fits in
-    let after = subst (λ (x : Contents). IsSettledLedger own d x) (sym (is_done ∙ ap (λ (x : Contents). after_plan x d plan) is)) (settled_plan own good going d known ours plan fit) in (
+    let fit = subst (λ (x : LedgerContents). IsSettlePlan x d plan) is fits in
+    let after = subst (λ (x : LedgerContents). IsSettledLedger own d x) (sym (is_done ∙ ap (λ (x : LedgerContents). after_plan x d plan) is)) (settled_plan own good going d known ours plan fit) in (
       after.ledger,
       subst (λ (b : Bool). MatchBool b ((answer ≡ Over) × (parts_in done ≡ parts_in c)) (IsOurs (parts_in c) d.base × (answer ≡ answer_for (parts_in c) d) × IsSettledBy (parts_in c) d (parts_in done))) (sym (sym ledger.running.replayed.account.done ∙ going)) (
         ours,
-        is_answer ∙ ap (λ (x : Contents). answer_to x plan) is ∙ answer_plan own good going d known ours plan fit,
+        is_answer ∙ ap (λ (x : LedgerContents). answer_to x plan) is ∙ answer_plan own good going d known ours plan fit,
         record { task = after.task; history = after.history; editions = after.editions; taken = after.taken },
       ),
     )

@@ -14,7 +14,7 @@ use Rattle.sp_ledger.specs.Opening.{AreNumbered}
 use Rattle.sp_core.specs.Books.{BookParts}
 
 -- a ledger as lists and numbers
-pub record Contents : Type 0 where
+pub record LedgerContents : Type 0 where
   pub task : TaskParts
   pub events : List Event
   pub editions : List EditionParts
@@ -29,7 +29,7 @@ pub record Contents : Type 0 where
   pub done : Bool
 
 -- the contents of a ledger
-abbrev pub contents : Ledger → Contents
+abbrev pub contents : Ledger → LedgerContents
 contents l = record {
   task = l.task;
   events = events_of l.events.items;
@@ -46,11 +46,11 @@ contents l = record {
 }
 
 -- what the book of these contents shows
-abbrev pub parts_in : Contents → BookParts
+abbrev pub parts_in : LedgerContents → BookParts
 parts_in c = record { task = c.task; history = c.events; editions = c.editions; taken = c.taken }
 
 -- the account in them
-abbrev pub account_in : Contents → Account
+abbrev pub account_in : LedgerContents → Account
 account_in c = record {
   records = c.records;
   editions = map members_in c.editions;
@@ -63,7 +63,7 @@ account_in c = record {
 }
 
 -- what holds of each ledger between calls
-pub record IsLedger (c : Contents) : Type 0 where
+pub record IsLedger (c : LedgerContents) : Type 0 where
   pub task : IsTask c.task
   pub running : IsRunning (task_of c.task) c.events (account_in c)
   pub numbered : AreNumbered c.task c.editions
@@ -74,11 +74,11 @@ pub record IsLedger (c : Contents) : Type 0 where
 
 -- ---- changes
 -- one event and one record more
-abbrev pub recorded : Contents → Event → Contents
-recorded c event = record c { events = c.events ++ event ∷ []; records = c.records + 1 }
+abbrev pub contents_with_event : LedgerContents → Event → LedgerContents
+contents_with_event c event = record c { events = c.events ++ event ∷ []; records = c.records + 1 }
 
 -- a member enters, whose worths are at hand
-abbrev pub with_member : Contents → Member → Contents
+abbrev pub with_member : LedgerContents → Member → LedgerContents
 with_member c x = record c {
   grown = c.grown ++ x ∷ [];
   improved = map (raised_at c.worths c.latest_values c.improved) (range_with_len 0 (length c.improved));
@@ -86,12 +86,12 @@ with_member c x = record c {
 }
 
 -- whether one stage is left at most
-abbrev pub is_last : Contents → Bool
+abbrev pub is_last : LedgerContents → Bool
 is_last c = c.stages_left - 1 == 0
 
 -- the grown list becomes that edition, and where no stage is left then the run is over
-abbrev pub published : Contents → EditionParts → Contents
-published c e = record c {
+abbrev pub contents_with_publication : LedgerContents → EditionParts → LedgerContents
+contents_with_publication c e = record c {
   events = c.events ++ publish ∷ cond (is_last c) (end ∷ []) [];
   editions = c.editions ++ e ∷ [];
   grown = [];
@@ -104,6 +104,6 @@ published c e = record c {
 }
 
 -- the member enters, and the edition is published if there is one
-abbrev pub entered_with : Contents → Member → Option EditionParts → Contents
+abbrev pub entered_with : LedgerContents → Member → Option EditionParts → LedgerContents
 entered_with c x None = with_member c x
-entered_with c x (Some e) = published (with_member c x) e
+entered_with c x (Some e) = contents_with_publication (with_member c x) e

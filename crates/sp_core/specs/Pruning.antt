@@ -13,7 +13,7 @@ use Rattle.sp_core.specs.Books.{BookParts, state_of}
 use Rattle.sp_core.specs.Settling.{IsOurs}
 use Rattle.sp_drops.specs.Drops.{left_by}
 use Rattle.sp_core.specs.Dominated.{AreDominatedPairs}
-use Rattle.sp_core.specs.Ledgers.{Contents}
+use Rattle.sp_core.specs.Ledgers.{LedgerContents}
 
 -- each pair names two different members of the edition, the first nowhere above the second
 abbrev pub AreDominatedIn : EditionParts → List (ℕ × ℕ) → Type 0
@@ -46,13 +46,13 @@ RefusesPrune b e NoMemory = (state_of b).done ≡ false
 
 -- ---- on a ledger
 -- the latest edition
-abbrev pub latest_in : Contents → EditionParts
+abbrev pub latest_in : LedgerContents → EditionParts
 latest_in c = slice_index_or c.editions (length c.editions - 1) (record { number = 0; task = c.task; members = [] })
 
 -- the edition that the pairs leave
-abbrev pub left_in : Contents → List (ℕ × ℕ) → EditionParts
+abbrev pub left_in : LedgerContents → List (ℕ × ℕ) → EditionParts
 left_in c pairs = record { number = length c.editions; task = c.task; members = left_by pairs (latest_in c).members }
 
 -- the contents after a prune of these pairs
-abbrev pub pruned_in : Contents → List (ℕ × ℕ) → Contents
+abbrev pub pruned_in : LedgerContents → List (ℕ × ℕ) → LedgerContents
 pruned_in c pairs = record c { events = c.events ++ prune pairs ∷ []; editions = c.editions ++ left_in c pairs ∷ [] }

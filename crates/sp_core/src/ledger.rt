@@ -35,7 +35,7 @@ pub(crate) struct Ledger {
 }
 
 impl Ledger {
-    ghost use Rattle.sp_core.specs.Ledgers.{contents, with_member, published, entered_with};
+    ghost use Rattle.sp_core.specs.Ledgers.{contents, with_member, contents_with_publication, entered_with};
 
     /// Takes a member into the grown list, whose worths are at hand.
     pub(crate) fn enter(&mut self, member: Member, next: Option<Arc<Edition>>)
@@ -76,7 +76,7 @@ impl Ledger {
     fn publish(&mut self, edition: Arc<Edition>)
         requires events { vec_len self.old.events + 2 ≤ vec_capacity self.old.events }
         requires editions { vec_len self.old.editions < vec_capacity self.old.editions }
-        ensures { contents self.new ≡ published (contents self.old) (arc_value edition) }
+        ensures { contents self.new ≡ contents_with_publication (contents self.old) (arc_value edition) }
     {
         self.events.push_reserved(Event::Publish);
         self.editions.push_reserved(edition);

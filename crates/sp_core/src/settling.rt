@@ -21,7 +21,7 @@ use std::sync::Arc;
 impl Ledger {
     ghost use Rattle.sp_core.specs.Ledgers.{contents, parts_in, IsLedger};
     ghost use Rattle.sp_core.specs.Settling.{IsOurs, IsSettled, RefusesSettle};
-    ghost use Rattle.sp_core.specs.Plans.{HasRoom, IsEntry, IsPlan, after_plan, answer_to};
+    ghost use Rattle.sp_core.specs.Plans.{HasRoom, IsEntry, IsSettlePlan, after_plan, answer_to};
 
     /// Whether the edition is one of this book's.
     pub(crate) fn has(&self, edition: &Edition) -> bool
@@ -61,7 +61,7 @@ impl Ledger {
         requires ours { IsOurs (parts_in (contents self.old)) candidate.now.base }
         ensures same { contents self.new ≡ record (contents self.old) { worths = self.new.worths.items } }
         ensures count { length self.new.worths.items ≡ length self.old.worths.items }
-        ensures plan { IfOk result (λ plan. IsPlan (contents self.new) candidate.now plan) }
+        ensures plan { IfOk result (λ plan. IsSettlePlan (contents self.new) candidate.now plan) }
         ensures room { OnOk result (HasRoom self.new) }
     {
         self.make_room()?;

@@ -6,7 +6,7 @@ use Rattle.sp_lex.specs.declared.lexeme.Span.{Span}
 use Rattle.sp_trees.specs.declared.refusal.Refusal.{Refusal}
 use Rattle.sp_trees.specs.declared.refusal.ModelKind.{ModelKind}
 use Rattle.sp_trees.specs.Refusals.{rank, is_before}
-use Rattle.sp_trees.specs.Rows.{IsLeastOf, IsAt}
+use Rattle.sp_trees.specs.Rows.{IsFirstRefusal, IsRefusalAt}
 use Rattle.sp_trees.proofs.LeastLemmas.{least_same, not_self}
 use Rattle.sp_syntax.specs.Spans.{AreRising, all_spans}
 use Rattle.sp_declarations.specs.Steps.{◌>>=◌, unless_refused, in_turn}
@@ -59,8 +59,8 @@ later_kind q r h k = same_place q.at r.at (rank q.kind) (rank r.kind) h k
 -- ---- one after another
 
 module _ {A B : Type 0} (R S : Refusal → Type 0) where
-  pub least_then : (x : Result A Refusal) (f : A → Result B Refusal) → IsLeastOf R (refusal_of x) → ((a : A) → x ≡ Ok a → IsLeastOf S (refusal_of (f a))) → ((r q : Refusal) → R r → S q → is_before q r ≡ false)
-      → IsLeastOf (λ r. R r ⊎ S r) (refusal_of (x >>= f))
+  pub least_then : (x : Result A Refusal) (f : A → Result B Refusal) → IsFirstRefusal R (refusal_of x) → ((a : A) → x ≡ Ok a → IsFirstRefusal S (refusal_of (f a))) → ((r q : Refusal) → R r → S q → is_before q r ≡ false)
+      → IsFirstRefusal (λ r. R r ⊎ S r) (refusal_of (x >>= f))
   least_then (Ok a) f h k order = least_same S _ (refusal_of (f a)) (λ r s. inr s) (λ r e. elim e [ inl q ↦ absurd (h r q) | inr s ↦ s ]) (k a refl)
   least_then (Err e) f h k order = (inl h.0, λ r c. elim c [ inl q ↦ h.1 r q | inr s ↦ order e r h.0 s ])
 
@@ -73,8 +73,8 @@ refused_unless None = refl
 refused_unless (Some r) = refl
 
 -- a row that a test decides, and rows that aren't before it
-pub least_else : (P : Type 0) (Q : Refusal → Type 0) (b : Bool) (at : ℕ) (k : ModelKind) (o : Option Refusal) → (b ≡ true → P) → (P → b ≡ true) → (b ≡ false → IsLeastOf Q o)
-    → ((q : Refusal) → Q q → is_before q (record { at = at; kind = k }) ≡ false) → IsLeastOf (λ r. (P × IsAt at k r) ⊎ Q r) (if b then Some (record { at = at; kind = k }) else o)
+pub least_else : (P : Type 0) (Q : Refusal → Type 0) (b : Bool) (at : ℕ) (k : ModelKind) (o : Option Refusal) → (b ≡ true → P) → (P → b ≡ true) → (b ≡ false → IsFirstRefusal Q o)
+    → ((q : Refusal) → Q q → is_before q (record { at = at; kind = k }) ≡ false) → IsFirstRefusal (λ r. (P × IsRefusalAt at k r) ⊎ Q r) (if b then Some (record { at = at; kind = k }) else o)
 least_else P Q true at k o to back h order = (
   inl (to refl, refl),
   λ r c. elim c [ inl p ↦ subst (λ q. is_before q (record { at = at; kind = k }) ≡ false) (sym p.1) (not_self (record { at = at; kind = k })) | inr q ↦ order r q ],
@@ -92,10 +92,10 @@ part_place Row spans place before (x ∷ xs) r (inl h) = has_left (spans x) (all
 part_place Row spans place before (x ∷ xs) r (inr h) = has_right (spans x) (all_spans spans xs) r.at (part_place Row spans place (before ++ x ∷ []) xs r h)
 
 module _ {S X : Type 0} (step : S → X → Result S Refusal) (Row : List X → X → Refusal → Type 0) (spans : X → List Span) (Fits : List X → S → Type 0)
-    (right : (before : List X) (s : S) (x : X) (low high : ℕ) → Fits before s → AreRising low (spans x) high → IsLeastOf (Row before x) (refusal_of (step s x)))
+    (right : (before : List X) (s : S) (x : X) (low high : ℕ) → Fits before s → AreRising low (spans x) high → IsFirstRefusal (Row before x) (refusal_of (step s x)))
     (next : (before : List X) (s t : S) (x : X) → Fits before s → step s x ≡ Ok t → Fits (before ++ x ∷ []) t)
     (place : (before : List X) (x : X) (r : Refusal) → Row before x r → HasPlace (spans x) r.at) where
-  pub turns_least : (before : List X) (s : S) (xs : List X) (low high : ℕ) → Fits before s → AreRising low (all_spans spans xs) high → IsLeastOf (PartRow Row before xs) (refusal_of (in_turn step s xs))
+  pub turns_least : (before : List X) (s : S) (xs : List X) (low high : ℕ) → Fits before s → AreRising low (all_spans spans xs) high → IsFirstRefusal (PartRow Row before xs) (refusal_of (in_turn step s xs))
   unfolding in_turn
   turns_least before s [] low high h rise = λ r n. n
   turns_least before s (x ∷ xs) low high h rise =

@@ -10,21 +10,21 @@ use Rattle.sp_declarations.specs.declared.error.ModelError.{ModelError}
 use Rattle.sp_declarations.specs.declared.declarations.Limits.{Limits}
 use Rattle.sp_declarations.specs.declared.declarations.Read.{Read}
 use Rattle.sp_declarations.specs.declared.declarations.Declared.{Declared}
-use Rattle.sp_declarations.specs.Steps.{unless_refused, Gives, Leaves}
+use Rattle.sp_declarations.specs.Steps.{unless_refused, GivesOrRunsOut, Leaves}
 use Rattle.sp_declarations.specs.Declarations.{limit_refusal, name_refusal, decl_of, declaration, declarations, declarations_of, variable_limits, sight_limits}
 use Rattle.sp_declarations.proofs.StepLemmas.{after, after_ok, exit_leaves, exit_gives}
 
 module _ (source : List ℕ) (l : Limits) (r : Read) (d : Declaration) where
   module _ (x : Result (Unit {0}) ModelError) (new : Read) (e : ModelError) (k : IsErrAnd x (λ q. q ≡ e)) where
-    pub limits_err : Gives (unless_refused (limit_refusal l r d)) (Err e) → Leaves (declaration source l r d) x new
+    pub limits_err : GivesOrRunsOut (unless_refused (limit_refusal l r d)) (Err e) → Leaves (declaration source l r d) x new
     unfolding declaration
     limits_err h = exit_leaves _ _ e x new h k
 
-    pub name_err : unless_refused (limit_refusal l r d) ≡ Ok tt → Gives (unless_refused (name_refusal source r.names d)) (Err e) → Leaves (declaration source l r d) x new
+    pub name_err : unless_refused (limit_refusal l r d) ≡ Ok tt → GivesOrRunsOut (unless_refused (name_refusal source r.names d)) (Err e) → Leaves (declaration source l r d) x new
     unfolding declaration
     name_err a h = after _ _ _ _ a (exit_leaves _ _ e x new h k)
 
-    pub values_err : unless_refused (limit_refusal l r d) ≡ Ok tt → unless_refused (name_refusal source r.names d) ≡ Ok tt → Gives (decl_of source d) (Err e) → Leaves (declaration source l r d) x new
+    pub values_err : unless_refused (limit_refusal l r d) ≡ Ok tt → unless_refused (name_refusal source r.names d) ≡ Ok tt → GivesOrRunsOut (decl_of source d) (Err e) → Leaves (declaration source l r d) x new
     unfolding declaration
     values_err a b h = after _ _ _ _ a (after _ _ _ _ b (exit_leaves _ _ e x new h k))
 
@@ -34,12 +34,12 @@ module _ (source : List ℕ) (l : Limits) (r : Read) (d : Declaration) where
   declaration_ok decl names decls points a b c e f g = after_ok _ _ _ _ a (after_ok _ _ _ _ b (after_ok _ _ _ _ c (cc (e, f, g))))
 
 module _ (source : List ℕ) (t : Text) where
-  pub variables_err : (x : Result Declared ModelError) (e : ModelError) → IsErrAnd x (λ q. q ≡ e) → Gives (declarations source variable_limits [] t.variables.declarations) (Err e) → Gives (declarations_of source t) x
+  pub variables_err : (x : Result Declared ModelError) (e : ModelError) → IsErrAnd x (λ q. q ≡ e) → GivesOrRunsOut (declarations source variable_limits [] t.variables.declarations) (Err e) → GivesOrRunsOut (declarations_of source t) x
   unfolding declarations_of
   variables_err x e k h = exit_gives _ _ e x h k
 
   pub sights_err : (x : Result Declared ModelError) (e : ModelError) (v : Read) → IsErrAnd x (λ q. q ≡ e) → declarations source variable_limits [] t.variables.declarations ≡ Ok v
-      → Gives (declarations source sight_limits v.names t.observations.declarations) (Err e) → Gives (declarations_of source t) x
+      → GivesOrRunsOut (declarations source sight_limits v.names t.observations.declarations) (Err e) → GivesOrRunsOut (declarations_of source t) x
   unfolding declarations_of
   sights_err x e v k a h = after _ _ _ _ a (exit_gives _ _ e x h k)
 

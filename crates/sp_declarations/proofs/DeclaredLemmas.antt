@@ -25,7 +25,7 @@ use Rattle.sp_declarations.specs.declared.declarations.Limits.{Limits}
 use Rattle.sp_declarations.specs.declared.declarations.Read.{Read}
 use Rattle.sp_declarations.specs.declared.declarations.Declared.{Declared}
 use Rattle.sp_declarations.specs.Steps.{◌>>=◌, in_turn}
-use Rattle.sp_declarations.specs.Declarations.{refused, value_refusal, value, values, limit_refusal, decl_of, with_decl, declaration, no_decls, declarations, declarations_of, variable_limits, sight_limits}
+use Rattle.sp_declarations.specs.Declarations.{refusal_at, value_refusal, value, values, limit_refusal, decl_of, with_decl, declaration, no_decls, declarations, declarations_of, variable_limits, sight_limits}
 use Rattle.sp_declarations.specs.Kept.{HasDeclared, AreDeclared}
 use Rattle.sp_declarations.proofs.StepLemmas.{stood, nothing_refused, not_if, all_more}
 use Rattle.sp_declarations.proofs.NameLemmas.{different_more, with_new}
@@ -50,7 +50,7 @@ pub record IsNewValue (values : List (List ℕ)) (word : List ℕ) : Type 0 wher
 new_value : (values : List (List ℕ)) (word : List ℕ) (at : ℕ) → value_refusal values word at ≡ None → IsNewValue values word
 new_value values word at h = go (is_some (number_of values word)) refl h
   where
-    go : (b : Bool) → is_some (number_of values word) ≡ b → (if b then refused at kind.RepeatedName else refused_if (length values == 64) at (kind.TooMany 64)) ≡ None → IsNewValue values word
+    go : (b : Bool) → is_some (number_of values word) ≡ b → (if b then refusal_at at kind.RepeatedName else refused_if (length values == 64) at (kind.TooMany 64)) ≡ None → IsNewValue values word
     go true e h = cc
     go false e h = record { new = e; few = not_if (length values == 64) at (kind.TooMany 64) h }
 
@@ -121,7 +121,7 @@ pub record IsWithinLimits (l : Limits) (r : Read) (d : Declaration) : Type 0 whe
 within_limits : (l : Limits) (r : Read) (d : Declaration) → limit_refusal l r d ≡ None → IsWithinLimits l r d
 within_limits l r d h = go (length r.decls == l.most) refl h
   where
-    go : (b : Bool) → (length r.decls == l.most) ≡ b → (if b then refused d.left.start (kind.TooMany l.most) else refused_if (nat_lt l.points (r.points * length d.values)) d.left.start (kind.TooMany l.points)) ≡ None → IsWithinLimits l r d
+    go : (b : Bool) → (length r.decls == l.most) ≡ b → (if b then refusal_at d.left.start (kind.TooMany l.most) else refused_if (nat_lt l.points (r.points * length d.values)) d.left.start (kind.TooMany l.points)) ≡ None → IsWithinLimits l r d
     go true e h = cc
     go false e h = record { count = e; points = not_if (nat_lt l.points (r.points * length d.values)) d.left.start (kind.TooMany l.points) h }
 

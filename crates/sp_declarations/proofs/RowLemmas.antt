@@ -19,7 +19,7 @@ use Rattle.sp_trees.specs.declared.refusal.ModelKind.{ModelKind}
 use Rattle.sp_trees.specs.declared.refusal.ModelKind.TheVariants as kind
 use Rattle.sp_trees.specs.Refusals.{is_before, rank, refused_if}
 use Rattle.sp_trees.specs.Words.{text, number_of}
-use Rattle.sp_trees.specs.Rows.{IsLeastOf, Among, IsAt}
+use Rattle.sp_trees.specs.Rows.{IsFirstRefusal, Among, IsRefusalAt}
 use Rattle.sp_trees.proofs.LeastLemmas.{least_same, least_test}
 use Rattle.sp_syntax.specs.Spans.{AreRising, all_spans, declaration_spans, declarations_spans}
 use Rattle.sp_declarations.specs.declared.declarations.Limits.{Limits}
@@ -28,7 +28,7 @@ use Rattle.sp_declarations.specs.Told.{decl_in, DeclarationsAreTold}
 use Rattle.sp_declarations.specs.Steps.{◌>>=◌, unless_refused}
 use Rattle.sp_declarations.specs.Declarations as spec
 use Rattle.sp_declarations.specs.Declarations.{variable_limits, sight_limits, value_refusal, limit_refusal, name_refusal, decl_of, with_decl, no_decls, declarations_of}
-use Rattle.sp_declarations.specs.Rows.{PartRow, HasPlace, refusal_of, WordRow, choices, LimitRow, NameRow, DeclarationRow, DeclaredRow, RowsAreRefusals}
+use Rattle.sp_declarations.specs.Rows.{PartRow, HasPlace, refusal_of, DeclarationWordRow, choices, LimitRow, NameRow, DeclarationRow, DeclaredRow, DeclarationRowsAreRefusals}
 use Rattle.sp_declarations.proofs.StepLemmas.{stood, nothing_refused, not_if}
 use Rattle.sp_declarations.proofs.NameLemmas.{with_new}
 use Rattle.sp_declarations.proofs.ChainLemmas.{has_left, has_right, rising_split, place_below, place_above, later, later_kind, least_then, refused_ok, refused_unless, least_else, part_place, turns_least, turns_fit}
@@ -64,10 +64,10 @@ module _ {X : Type 0} (f : X → List ℕ) (p : List ℕ → Bool) (w : List ℕ
       go false e = e
 
 -- a refusal at the same place whose kind isn't before
-at_later : (at : ℕ) (j k : ModelKind) (q : Refusal) → IsAt at j q → rank k ≤ rank j → is_before q (record { at = at; kind = k }) ≡ false
+at_later : (at : ℕ) (j k : ModelKind) (q : Refusal) → IsRefusalAt at j q → rank k ≤ rank j → is_before q (record { at = at; kind = k }) ≡ false
 at_later at j k q h l = subst (λ q. is_before q (record { at = at; kind = k }) ≡ false) (sym h) (later_kind (record { at = at; kind = j }) (record { at = at; kind = k }) (omega arith) l)
 
-place_of : (at : ℕ) (k : ModelKind) (r : Refusal) → IsAt at k r → r.at ≡ at
+place_of : (at : ℕ) (k : ModelKind) (r : Refusal) → IsRefusalAt at k r → r.at ≡ at
 place_of at k r h = ap (λ r. r.at) h
 
 length-map : {X Y : Type 0} (f : X → Y) (xs : List X) → length (map f xs) ≡ length xs
@@ -88,9 +88,9 @@ module _ (source : List ℕ) where
   singles [] = refl
   singles (w ∷ ws) = ap (λ vs. w ∷ vs) (singles ws)
 
-  value_least : (before : List Span) (vs : List (List ℕ)) (w : Span) → vs ≡ map (text source) before → IsLeastOf (WordRow source before w) (value_refusal vs (text source w) w.start)
+  value_least : (before : List Span) (vs : List (List ℕ)) (w : Span) → vs ≡ map (text source) before → IsFirstRefusal (DeclarationWordRow source before w) (value_refusal vs (text source w) w.start)
   value_least before vs w e =
-      least_else (Among (λ v. text source v ≡ text source w) before) (λ r. (length before ≡ 64) × IsAt w.start (kind.TooMany 64) r) (is_some (number_of vs (text source w))) w.start kind.RepeatedName (refused_if (length vs == 64) w.start (kind.TooMany 64))
+      least_else (Among (λ v. text source v ≡ text source w) before) (λ r. (length before ≡ 64) × IsRefusalAt w.start (kind.TooMany 64) r) (is_some (number_of vs (text source w))) w.start kind.RepeatedName (refused_if (length vs == 64) w.start (kind.TooMany 64))
       (λ q. among_of (text source) test (text source w) to back before (sym there ∙ q)) (λ h. there ∙ any_of (text source) test (text source w) to back before h)
       (λ q. least_test (length before ≡ 64) (length vs == 64) w.start (kind.TooMany 64) (λ q. let m = (Decides-eqb (length vs) 64).0 q in let l = long in omega arith) (λ q. let l = long in (Decides-eqb (length vs) 64).1 (omega arith)))
       (λ q h. at_later w.start (kind.TooMany 64) kind.RepeatedName q h.1 (omega arith))
@@ -121,26 +121,26 @@ module _ (source : List ℕ) where
       same : (a b : List (List ℕ)) (r : Result (List (List ℕ)) Refusal) → Ok a ≡ r → r ≡ Ok b → a ≡ b
       same a b r q k = cc
 
-  value_place : (before : List Span) (w : Span) (r : Refusal) → WordRow source before w r → HasPlace (one w) r.at
+  value_place : (before : List Span) (w : Span) (r : Refusal) → DeclarationWordRow source before w r → HasPlace (one w) r.at
   value_place before w r (inl h) = inl (sym (place_of w.start kind.RepeatedName r h.1))
   value_place before w r (inr h) = inl (sym (place_of w.start (kind.TooMany 64) r h.1))
 
-  value_right : (before : List Span) (s : List (List ℕ)) (w : Span) (low high : ℕ) → HasValues before s → AreRising low (one w) high → IsLeastOf (WordRow source before w) (refusal_of (spec.value source s w))
+  value_right : (before : List Span) (s : List (List ℕ)) (w : Span) (low high : ℕ) → HasValues before s → AreRising low (one w) high → IsFirstRefusal (DeclarationWordRow source before w) (refusal_of (spec.value source s w))
   value_right before s w low high h rise =
       let o = value_refusal s (text source w) w.start in
-      subst (IsLeastOf (WordRow source before w)) (sym (refused_ok (unless_refused o) (λ _. s ++ text source w ∷ []) ∙ refused_unless o)) (value_least before s w h)
+      subst (IsFirstRefusal (DeclarationWordRow source before w)) (sym (refused_ok (unless_refused o) (λ _. s ++ text source w ∷ []) ∙ refused_unless o)) (value_least before s w h)
 
-  values_place : (ws : List Span) (r : Refusal) → PartRow (WordRow source) [] ws r → HasPlace ws r.at
-  values_place ws r h = subst (λ ss. HasPlace ss r.at) (singles ws) (part_place (WordRow source) one value_place [] ws r h)
+  values_place : (ws : List Span) (r : Refusal) → PartRow (DeclarationWordRow source) [] ws r → HasPlace ws r.at
+  values_place ws r h = subst (λ ss. HasPlace ss r.at) (singles ws) (part_place (DeclarationWordRow source) one value_place [] ws r h)
 
-  values_least : (ws : List Span) (low high : ℕ) → AreRising low ws high → IsLeastOf (PartRow (WordRow source) [] ws) (refusal_of (spec.values source ws))
+  values_least : (ws : List Span) (low high : ℕ) → AreRising low ws high → IsFirstRefusal (PartRow (DeclarationWordRow source) [] ws) (refusal_of (spec.values source ws))
   unfolding spec.values
   values_least ws low high rise =
-      turns_least (spec.value source) (WordRow source) one HasValues value_right value_next value_place [] [] ws low high refl (subst (λ ss. AreRising low ss high) (sym (singles ws)) rise)
+      turns_least (spec.value source) (DeclarationWordRow source) one HasValues value_right value_next value_place [] [] ws low high refl (subst (λ ss. AreRising low ss high) (sym (singles ws)) rise)
 
   values_told : (ws : List Span) (vs : List (List ℕ)) → spec.values source ws ≡ Ok vs → vs ≡ map (text source) ws
   unfolding spec.values
-  values_told ws vs e = turns_fit (spec.value source) (WordRow source) one HasValues value_right value_next value_place [] [] vs ws refl e
+  values_told ws vs e = turns_fit (spec.value source) (DeclarationWordRow source) one HasValues value_right value_next value_place [] [] vs ws refl e
 
   decl_told : (d : Declaration) (decl : Decl) → decl_of source d ≡ Ok decl → decl ≡ decl_in source d
   decl_told d decl e =
@@ -164,7 +164,7 @@ module _ (source : List ℕ) (l : Limits) (others : List Declaration) where
     points : r.points ≡ choices before
     few : choices before ≤ l.points
 
-  limit_least : (before : List Declaration) (r : Read) (d : Declaration) → HasRead before r → IsLeastOf (LimitRow l.most l.points before d) (limit_refusal l r d)
+  limit_least : (before : List Declaration) (r : Read) (d : Declaration) → HasRead before r → IsFirstRefusal (LimitRow l.most l.points before d) (limit_refusal l r d)
   limit_least before r d h =
       least_else (length before ≡ l.most) Second (length r.decls == l.most) d.left.start (kind.TooMany l.most) (refused_if (nat_lt l.points (r.points * length d.values)) d.left.start (kind.TooMany l.points))
       (λ q. let m = (Decides-eqb (length r.decls) l.most).0 q in let c = h.count in omega arith) (λ q. let c = h.count in (Decides-eqb (length r.decls) l.most).1 (omega arith))
@@ -172,14 +172,14 @@ module _ (source : List ℕ) (l : Limits) (others : List Declaration) where
       (λ q k. at_later d.left.start (kind.TooMany l.points) (kind.TooMany l.most) q k.3 (omega arith))
     where
       Second : Refusal → Type 0
-      Second q = (length before ≢ l.most) × (choices before ≤ l.points) × (l.points < choices (before ++ d ∷ [])) × IsAt d.left.start (kind.TooMany l.points) q
+      Second q = (length before ≢ l.most) × (choices before ≤ l.points) × (l.points < choices (before ++ d ∷ [])) × IsRefusalAt d.left.start (kind.TooMany l.points) q
 
       more : r.points * length d.values ≡ choices (before ++ d ∷ [])
       more = ap (λ n. n * length d.values) h.points ∙ sym (fold-append (λ n e. n * length e.values) 1 before (d ∷ []))
 
-      second : (length r.decls == l.most) ≡ false → IsLeastOf Second (refused_if (nat_lt l.points (r.points * length d.values)) d.left.start (kind.TooMany l.points))
+      second : (length r.decls == l.most) ≡ false → IsFirstRefusal Second (refused_if (nat_lt l.points (r.points * length d.values)) d.left.start (kind.TooMany l.points))
       second q =
-          least_same (λ r. ((length before ≢ l.most) × (choices before ≤ l.points) × (l.points < choices (before ++ d ∷ []))) × IsAt d.left.start (kind.TooMany l.points) r) Second _
+          least_same (λ r. ((length before ≢ l.most) × (choices before ≤ l.points) × (l.points < choices (before ++ d ∷ []))) × IsRefusalAt d.left.start (kind.TooMany l.points) r) Second _
           (λ r k. (k.0.0, k.0.1, k.0.2, k.1)) (λ r k. ((k.0, k.1, k.2), k.3))
           (least_test ((length before ≢ l.most) × (choices before ≤ l.points) × (l.points < choices (before ++ d ∷ []))) (nat_lt l.points (r.points * length d.values)) d.left.start (kind.TooMany l.points)
           (λ t. (
@@ -195,7 +195,7 @@ module _ (source : List ℕ) (l : Limits) (others : List Declaration) where
           below : (a b : ℕ) → a ≡ b → l.points < b → nat_lt l.points a ≡ true
           below a b e t = grind (arith, nat_tests)
 
-  name_least : (before : List Declaration) (r : Read) (d : Declaration) → HasRead before r → IsLeastOf (NameRow source others before d) (name_refusal source r.names d)
+  name_least : (before : List Declaration) (r : Read) (d : Declaration) → HasRead before r → IsFirstRefusal (NameRow source others before d) (name_refusal source r.names d)
   name_least before r d h =
       least_test (Among (λ e. text source e.name ≡ text source d.name) (others ++ before)) (list_any (bytes_eq (text source d.name)) r.names) d.name.start kind.RepeatedName
       (λ q. among_of name_in (bytes_eq (text source d.name)) (text source d.name) to back (others ++ before) (sym there ∙ q))
@@ -210,16 +210,16 @@ module _ (source : List ℕ) (l : Limits) (others : List Declaration) where
       there : list_any (bytes_eq (text source d.name)) r.names ≡ list_any (bytes_eq (text source d.name)) (map name_in (others ++ before))
       there = ap (list_any (bytes_eq (text source d.name))) h.names
 
-  declaration_right : (before : List Declaration) (r : Read) (d : Declaration) (low high : ℕ) → HasRead before r → AreRising low (declaration_spans d) high → IsLeastOf (Row before d) (refusal_of (spec.declaration source l r d))
+  declaration_right : (before : List Declaration) (r : Read) (d : Declaration) (low high : ℕ) → HasRead before r → AreRising low (declaration_spans d) high → IsFirstRefusal (Row before d) (refusal_of (spec.declaration source l r d))
   unfolding spec.declaration
   declaration_right before r d low high h (a, b, (c, n, rise)) =
       let cut = rising_split d.values (d.right ∷ []) d.name.end high rise in
       let made : List (List ℕ) → Decl = λ vs. record { name = text source d.name; values = vs } in
-      least_then (LimitRow l.most l.points before d) (λ r. NameRow source others before d r ⊎ PartRow (WordRow source) [] d.values r) (unless_refused (limit_refusal l r d)) _
-      (subst (IsLeastOf (LimitRow l.most l.points before d)) (sym (refused_unless (limit_refusal l r d))) (limit_least before r d h))
-      (λ u q. least_then (NameRow source others before d) (PartRow (WordRow source) [] d.values) (unless_refused (name_refusal source r.names d)) _
-      (subst (IsLeastOf (NameRow source others before d)) (sym (refused_unless (name_refusal source r.names d))) (name_least before r d h))
-      (λ u q. subst (IsLeastOf (PartRow (WordRow source) [] d.values)) (sym (refused_ok (decl_of source d) (with_decl source r d) ∙ refused_ok (spec.values source d.values) made)) (values_least source d.values d.name.end cut.0 cut.1))
+      least_then (LimitRow l.most l.points before d) (λ r. NameRow source others before d r ⊎ PartRow (DeclarationWordRow source) [] d.values r) (unless_refused (limit_refusal l r d)) _
+      (subst (IsFirstRefusal (LimitRow l.most l.points before d)) (sym (refused_unless (limit_refusal l r d))) (limit_least before r d h))
+      (λ u q. least_then (NameRow source others before d) (PartRow (DeclarationWordRow source) [] d.values) (unless_refused (name_refusal source r.names d)) _
+      (subst (IsFirstRefusal (NameRow source others before d)) (sym (refused_unless (name_refusal source r.names d))) (name_least before r d h))
+      (λ u q. subst (IsFirstRefusal (PartRow (DeclarationWordRow source) [] d.values)) (sym (refused_ok (decl_of source d) (with_decl source r d) ∙ refused_ok (spec.values source d.values) made)) (values_least source d.values d.name.end cut.0 cut.1))
       (λ x y p q. let first = place_of d.name.start kind.RepeatedName x p.1 in let second = place_above d.values d.name.end cut.0 y.at cut.1 (values_place source d.values y q) in later y x (omega arith)))
       (λ x y p q. later y x (behind x y p q (place_above d.values d.name.end cut.0 y.at cut.1)))
     where
@@ -227,7 +227,7 @@ module _ (source : List ℕ) (l : Limits) (others : List Declaration) where
       left_place x (inl k) = place_of d.left.start (kind.TooMany l.most) x k.1
       left_place x (inr k) = place_of d.left.start (kind.TooMany l.points) x k.3
 
-      behind : (x y : Refusal) → LimitRow l.most l.points before d x → NameRow source others before d y ⊎ PartRow (WordRow source) [] d.values y → (HasPlace d.values y.at → d.name.end ≤ y.at) → x.at < y.at
+      behind : (x y : Refusal) → LimitRow l.most l.points before d x → NameRow source others before d y ⊎ PartRow (DeclarationWordRow source) [] d.values y → (HasPlace d.values y.at → d.name.end ≤ y.at) → x.at < y.at
       behind x y p (inl k) above = let first = left_place x p in let second = place_of d.name.start kind.RepeatedName y k.1 in omega arith
       behind x y p (inr k) above = let first = left_place x p in let second = above (values_place source d.values y k) in omega arith
 
@@ -250,7 +250,7 @@ module _ (source : List ℕ) (l : Limits) (others : List Declaration) where
         decls = ap (λ xs. xs ++ c.value ∷ []) h.decls ∙ ap (λ x. map (decl_in source) before ++ x ∷ []) (decl_told source d c.value c.was) ∙ map-more (decl_in source) before d;
         count = let n = h.count in omega (arith, length-append r.decls (c.value ∷ []), length-append before (d ∷ []));
         points = ap (λ n. n * length d.values) h.points ∙ sym (fold-append (λ n e. n * length e.values) 1 before (d ∷ []));
-        few = few (subst (IsLeastOf (LimitRow l.most l.points before d)) (nothing_refused _ a.value a.was) (limit_least before r d h)) (nat_lt l.points (choices (before ++ d ∷ []))) refl;
+        few = few (subst (IsFirstRefusal (LimitRow l.most l.points before d)) (nothing_refused _ a.value a.was) (limit_least before r d h)) (nat_lt l.points (choices (before ++ d ∷ []))) refl;
       })
     where
       not_above : (a b : ℕ) → nat_lt a b ≡ false → b ≤ a
@@ -273,7 +273,7 @@ module _ (source : List ℕ) (l : Limits) (others : List Declaration) where
   begun : (names : List (List ℕ)) → names ≡ map name_in others → 1 ≤ l.points → HasRead [] (no_decls names)
   begun names e some = record { names = e ∙ ap (map name_in) (sym (append-nil others)); decls = refl; count = refl; points = refl; few = some }
 
-  sort_least : (names : List (List ℕ)) (ds : Declarations) (low high : ℕ) → names ≡ map name_in others → 1 ≤ l.points → AreRising low (declarations_spans ds) high → IsLeastOf (Part ds.declarations) (refusal_of (spec.declarations source l names ds.declarations))
+  sort_least : (names : List (List ℕ)) (ds : Declarations) (low high : ℕ) → names ≡ map name_in others → 1 ≤ l.points → AreRising low (declarations_spans ds) high → IsFirstRefusal (Part ds.declarations) (refusal_of (spec.declarations source l names ds.declarations))
   sort_least names ds low high e some (a, b, (c, n, rise)) =
       let cut = rising_split (all_spans declaration_spans ds.declarations) (ds.right ∷ []) ds.keyword.end high rise in
       turns_least (spec.declaration source l) Row declaration_spans HasRead declaration_right declaration_next declaration_place [] (no_decls names) ds.declarations ds.keyword.end cut.0 (begun names e some) cut.1
@@ -287,7 +287,7 @@ module _ (source : List ℕ) (l : Limits) (others : List Declaration) where
 
 -- ---- the declarations of a text
 
-pub declared_least : RowsAreRefusals
+pub declared_least : DeclarationRowsAreRefusals
 unfolding declarations_of
 declared_least source t low high rise =
     let cut = rising_split (declarations_spans t.variables) (declarations_spans t.observations) low high rise in
@@ -296,7 +296,7 @@ declared_least source t low high rise =
     let R : Refusal → Type 0 = PartRow (DeclarationRow source 24 16777216 []) [] vs in
     let S : Refusal → Type 0 = PartRow (DeclarationRow source 8 4096 vs) [] os in
     least_then R S (spec.declarations source variable_limits [] vs) _ (sort_least source variable_limits [] [] t.variables low cut.0 refl (omega arith) cut.1)
-    (λ v e. subst (IsLeastOf S) (sym (refused_ok (spec.declarations source sight_limits v.names os) (λ s. record { variables = v.decls; sights = s.decls })))
+    (λ v e. subst (IsFirstRefusal S) (sym (refused_ok (spec.declarations source sight_limits v.names os) (λ s. record { variables = v.decls; sights = s.decls })))
     (sort_least source sight_limits vs v.names t.observations cut.0 high (sort_read source variable_limits [] [] vs v refl (omega arith) e).names (omega arith) cut.2))
     (λ r q a b.
     let first = place_below (declarations_spans t.variables) low cut.0 r.at cut.1 (sort_place source variable_limits [] t.variables r a) in

@@ -6,7 +6,7 @@ use Rattle.sp_trees.specs.declared.refusal.ModelKind.{ModelKind}
 use Rattle.sp_trees.specs.Refusals.{refused_if}
 use Rattle.sp_declarations.specs.declared.error.ModelError.{ModelError}
 use Rattle.sp_declarations.specs.declared.error.ModelError.TheVariants as error
-use Rattle.sp_declarations.specs.Steps.{◌>>=◌, unless_refused, in_turn, Gives, Leaves}
+use Rattle.sp_declarations.specs.Steps.{◌>>=◌, unless_refused, in_turn, GivesOrRunsOut, Leaves}
 
 -- a turn of a loop over items
 module _ {S X : Type 0} (step : S → X → Result S Refusal) (s : S) (xs : List X) (i : ℕ) where
@@ -28,21 +28,21 @@ module _ {S X : Type 0} (step : S → X → Result S Refusal) (s : S) (xs : List
   turns_over h = ap (in_turn step s) (drop_of_length-le xs h)
 
 -- a part that is refused refuses the whole, by the error that `?` passes on
-pub exit_leaves : {A B : Type 0} (x : Result A Refusal) (f : A → Result B Refusal) (e : ModelError) (r : Result (Unit {0}) ModelError) (new : B) → Gives x (Err e) → IsErrAnd r (λ d. d ≡ e) → Leaves (x >>= f) r new
+pub exit_leaves : {A B : Type 0} (x : Result A Refusal) (f : A → Result B Refusal) (e : ModelError) (r : Result (Unit {0}) ModelError) (new : B) → GivesOrRunsOut x (Err e) → IsErrAnd r (λ d. d ≡ e) → Leaves (x >>= f) r new
 exit_leaves x f e (Ok u) new h k = absurd k
 exit_leaves x f e (Err error.NoMemory) new h k = tt
 exit_leaves x f (error.Fault a q) (Err (error.Fault b r)) new h k = ap (λ x. x >>= f) h ∙ (let at : a ≡ b = cc in let kind : q ≡ r = cc in rw (at, kind) refl)
 exit_leaves x f error.NoMemory (Err (error.Fault b r)) new h k = cc
 
-pub exit_gives : {A B : Type 0} (x : Result A Refusal) (f : A → Result B Refusal) (e : ModelError) (r : Result B ModelError) → Gives x (Err e) → IsErrAnd r (λ d. d ≡ e) → Gives (x >>= f) r
+pub exit_gives : {A B : Type 0} (x : Result A Refusal) (f : A → Result B Refusal) (e : ModelError) (r : Result B ModelError) → GivesOrRunsOut x (Err e) → IsErrAnd r (λ d. d ≡ e) → GivesOrRunsOut (x >>= f) r
 exit_gives x f e (Ok u) h k = absurd k
 exit_gives x f e (Err error.NoMemory) h k = tt
 exit_gives x f (error.Fault a q) (Err (error.Fault b r)) h k = ap (λ x. x >>= f) h ∙ (let at : a ≡ b = cc in let kind : q ≡ r = cc in rw (at, kind) refl)
 exit_gives x f error.NoMemory (Err (error.Fault b r)) h k = cc
 
 -- what was read stands, and the rest follows
-pub after : {A B : Type 0} (x : Result A Refusal) (f : A → Result B Refusal) (a : A) (r : Result B ModelError) → x ≡ Ok a → Gives (f a) r → Gives (x >>= f) r
-after x f a r e h = subst (λ y. Gives (y >>= f) r) (sym e) h
+pub after : {A B : Type 0} (x : Result A Refusal) (f : A → Result B Refusal) (a : A) (r : Result B ModelError) → x ≡ Ok a → GivesOrRunsOut (f a) r → GivesOrRunsOut (x >>= f) r
+after x f a r e h = subst (λ y. GivesOrRunsOut (y >>= f) r) (sym e) h
 
 pub after_ok : {A B : Type 0} (x : Result A Refusal) (f : A → Result B Refusal) (a : A) (y : Result B Refusal) → x ≡ Ok a → f a ≡ y → (x >>= f) ≡ y
 after_ok x f a y e h = ap (λ z. z >>= f) e ∙ h

@@ -25,12 +25,12 @@ variable_limits = record { most = 24; points = 16777216 }
 abbrev pub sight_limits : Limits
 sight_limits = record { most = 8; points = 4096 }
 
-abbrev pub refused : ℕ → ModelKind → Option Refusal
-refused at kind = Some (record { at = at; kind = kind })
+abbrev pub refusal_at : ℕ → ModelKind → Option Refusal
+refusal_at at kind = Some (record { at = at; kind = kind })
 
 -- a value that was listed before, or the 65th
 abbrev pub value_refusal : List (List ℕ) → List ℕ → ℕ → Option Refusal
-value_refusal values word at = if is_some (number_of values word) then refused at kind.RepeatedName else refused_if (length values == 64) at (kind.TooMany 64)
+value_refusal values word at = if is_some (number_of values word) then refusal_at at kind.RepeatedName else refused_if (length values == 64) at (kind.TooMany 64)
 
 -- the values with one more
 abbrev pub value : List ℕ → List (List ℕ) → Span → Result (List (List ℕ)) Refusal
@@ -43,7 +43,7 @@ values source spans = in_turn (value source) [] spans
 -- one variable too many, or too many choices of a value for each of them
 abbrev pub limit_refusal : Limits → Read → Declaration → Option Refusal
 limit_refusal l r d =
-    if length r.decls == l.most then refused d.left.start (kind.TooMany l.most)
+    if length r.decls == l.most then refusal_at d.left.start (kind.TooMany l.most)
     else refused_if (nat_lt l.points (r.points * length d.values)) d.left.start (kind.TooMany l.points)
 
 -- a name that was declared before

@@ -3,14 +3,14 @@ use Rattle.std.specs.Prelude.{ℕ, ◌^◌, ◌<◌, ◌≤◌, ◌++◌, List, 
 use Rattle.sp_theory.specs.Points.{count_of}
 use Rattle.sp_syntax.specs.declared.text.Declaration.{Declaration}
 use Rattle.sp_model.specs.declared.parts.Decl.{Decl}
-use Rattle.sp_model.specs.Words.{IsName, IsValueName}
+use Rattle.sp_model.specs.Words.{IsModelName, IsValueName}
 use Rattle.sp_model.specs.Kept.{IsDecl, AreDifferent}
 use Rattle.sp_model.specs.Problem.{sizes_of}
 use Rattle.sp_trees.specs.Words.{text}
 
 -- a declared name is a name, and there is a value
 pub record HasDeclared (source : List ℕ) (d : Declaration) : Type 0 where
-  pub name : IsName (text source d.name)
+  pub name : IsModelName (text source d.name)
   pub some : 0 < length d.values
   pub values : All (λ w. IsValueName (text source w)) d.values
 

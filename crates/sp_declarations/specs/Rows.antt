@@ -6,7 +6,7 @@ use Rattle.sp_syntax.specs.declared.text.Text.{Text}
 use Rattle.sp_trees.specs.declared.refusal.ModelKind.TheVariants as kind
 use Rattle.sp_trees.specs.declared.refusal.Refusal.{Refusal}
 use Rattle.sp_trees.specs.Words.{text}
-use Rattle.sp_trees.specs.Rows.{IsLeastOf, Among, IsAt}
+use Rattle.sp_trees.specs.Rows.{IsFirstRefusal, Among, IsRefusalAt}
 use Rattle.sp_syntax.specs.Spans.{AreRising, declarations_spans}
 use Rattle.sp_declarations.specs.Declarations.{declarations_of}
 
@@ -25,8 +25,8 @@ refusal_of (Err r) = Some r
 
 -- ---- declarations
 -- a value that was listed before, or the 65th
-abbrev pub WordRow : List ℕ → List Span → Span → Refusal → Type 0
-WordRow source before w r = (Among (λ v. text source v ≡ text source w) before × IsAt w.start kind.RepeatedName r) ⊎ ((length before ≡ 64) × IsAt w.start (kind.TooMany 64) r)
+abbrev pub DeclarationWordRow : List ℕ → List Span → Span → Refusal → Type 0
+DeclarationWordRow source before w r = (Among (λ v. text source v ≡ text source w) before × IsRefusalAt w.start kind.RepeatedName r) ⊎ ((length before ≡ 64) × IsRefusalAt w.start (kind.TooMany 64) r)
 
 -- how many choices of a value for each variable there are
 abbrev pub choices : List Declaration → ℕ
@@ -35,15 +35,15 @@ choices ds = fold (λ n d. n * length d.values) 1 ds
 -- one variable too many, or else the first that makes too many choices: at its bracket
 abbrev pub LimitRow : ℕ → ℕ → List Declaration → Declaration → Refusal → Type 0
 LimitRow most points before d r =
-    ((length before ≡ most) × IsAt d.left.start (kind.TooMany most) r)
-    ⊎ ((length before ≢ most) × (choices before ≤ points) × (points < choices (before ++ d ∷ [])) × IsAt d.left.start (kind.TooMany points) r)
+    ((length before ≡ most) × IsRefusalAt d.left.start (kind.TooMany most) r)
+    ⊎ ((length before ≢ most) × (choices before ≤ points) × (points < choices (before ++ d ∷ [])) × IsRefusalAt d.left.start (kind.TooMany points) r)
 
 -- a name that was declared before, by another sort too: at the name
 abbrev pub NameRow : List ℕ → List Declaration → List Declaration → Declaration → Refusal → Type 0
-NameRow source others before d r = Among (λ e. text source e.name ≡ text source d.name) (others ++ before) × IsAt d.name.start kind.RepeatedName r
+NameRow source others before d r = Among (λ e. text source e.name ≡ text source d.name) (others ++ before) × IsRefusalAt d.name.start kind.RepeatedName r
 
 abbrev pub DeclarationRow : List ℕ → ℕ → ℕ → List Declaration → List Declaration → Declaration → Refusal → Type 0
-DeclarationRow source most points others before d r = LimitRow most points before d r ⊎ (NameRow source others before d r ⊎ PartRow (WordRow source) [] d.values r)
+DeclarationRow source most points others before d r = LimitRow most points before d r ⊎ (NameRow source others before d r ⊎ PartRow (DeclarationWordRow source) [] d.values r)
 
 -- a row of the declarations of a text
 abbrev pub DeclaredRow : List ℕ → Text → Refusal → Type 0
@@ -52,6 +52,6 @@ DeclaredRow source t r =
     ⊎ PartRow (DeclarationRow source 8 4096 t.variables.declarations) [] t.observations.declarations r
 
 -- reading the declarations answers the row that comes first, and Ok exactly where no row holds
-abbrev pub RowsAreRefusals : Type 0
-RowsAreRefusals = (source : List ℕ) (t : Text) (low high : ℕ) → AreRising low (declarations_spans t.variables ++ declarations_spans t.observations) high
-    → IsLeastOf (DeclaredRow source t) (refusal_of (declarations_of source t))
+abbrev pub DeclarationRowsAreRefusals : Type 0
+DeclarationRowsAreRefusals = (source : List ℕ) (t : Text) (low high : ℕ) → AreRising low (declarations_spans t.variables ++ declarations_spans t.observations) high
+    → IsFirstRefusal (DeclaredRow source t) (refusal_of (declarations_of source t))

@@ -21,16 +21,16 @@ in_turn step s [] = Ok s
 in_turn step s (x ∷ xs) = step s x >>= λ t. in_turn step t xs
 
 -- the code answers this, unless memory ran out
-abbrev pub Gives : {X : Type 0} → Result X Refusal → Result X ModelError → Type 0
-Gives s (Ok x) = s ≡ Ok x
-Gives s (Err (error.Fault at kind)) = s ≡ Err (record { at = at; kind = kind })
-Gives s (Err error.NoMemory) = ⊤
+abbrev pub GivesOrRunsOut : {X : Type 0} → Result X Refusal → Result X ModelError → Type 0
+GivesOrRunsOut s (Ok x) = s ≡ Ok x
+GivesOrRunsOut s (Err (error.Fault at kind)) = s ≡ Err (record { at = at; kind = kind })
+GivesOrRunsOut s (Err error.NoMemory) = ⊤
 
 -- the answer of a call that changes what was read so far
-abbrev pub left : {X : Type 0} → Result (Unit {0}) ModelError → X → Result X ModelError
-left (Ok u) new = Ok new
-left (Err e) new = Err e
+abbrev pub answer_with : {X : Type 0} → Result (Unit {0}) ModelError → X → Result X ModelError
+answer_with (Ok u) new = Ok new
+answer_with (Err e) new = Err e
 
 -- the code leaves this, unless memory ran out
 abbrev pub Leaves : {X : Type 0} → Result X Refusal → Result (Unit {0}) ModelError → X → Type 0
-Leaves s r new = Gives s (left r new)
+Leaves s r new = GivesOrRunsOut s (answer_with r new)

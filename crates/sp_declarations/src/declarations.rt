@@ -1,7 +1,7 @@
 //! Declarations.
 
 ghost use Rattle.std.specs.Prelude.{◌≡◌, [], ◌<◌, ◌≤◌, ◌^◌, ◌*◌, length, IfOk, OnOk};
-ghost use Rattle.sp_declarations.specs.Steps.{Gives, Leaves, unless_refused};
+ghost use Rattle.sp_declarations.specs.Steps.{GivesOrRunsOut, Leaves, unless_refused};
 ghost use Rattle.sp_declarations.specs.Declarations as spec;
 ghost use Rattle.sp_names.specs.Names.{with_name};
 ghost use Rattle.sp_trees.specs.Words.{text};
@@ -97,7 +97,7 @@ fn value(
 /// The values of a declaration.
 #[tactic(auto, using(crate::proofs::StepLemmas::turn_ok, crate::proofs::StepLemmas::turn_err, crate::proofs::StepLemmas::turns_over), unfolding(crate::specs::Declarations::values))]
 fn values(alloc: Global, source: &[u8], words: &[Span]) -> Result<sp_model::Names, ModelError>
-    ensures { Gives (spec.values source.now words.now) result }
+    ensures { GivesOrRunsOut (spec.values source.now words.now) result }
 {
     let mut values = sp_model::Names::new(alloc);
     for span in words {
@@ -130,7 +130,7 @@ fn limit_refusal(limits: Limits, read: &Read<'_>, next: &Declaration) -> Option<
 /// Whether a declaration is within the limits.
 fn within_limits(limits: Limits, read: &Read<'_>, next: &Declaration) -> Result<(), ModelError>
     requires { limits.points < 2 ^ 32 }
-    ensures refused { Gives (unless_refused (spec.limit_refusal limits read.now next.now)) result }
+    ensures refused { GivesOrRunsOut (unless_refused (spec.limit_refusal limits read.now next.now)) result }
     ensures fits { IfOk result (λ _. read.now.points * length next.now.values ≤ limits.points) }
 {
     refuse(limit_refusal(limits, read, next))
@@ -142,7 +142,7 @@ fn declare<'a>(
     source: &'a [u8],
     next: &Declaration,
 ) -> Result<(), ModelError>
-    ensures refused { Gives (unless_refused (spec.name_refusal source.now names.old next.now)) result }
+    ensures refused { GivesOrRunsOut (unless_refused (spec.name_refusal source.now names.old next.now)) result }
     ensures names { OnOk result (names.new ≡ with_name names.old (text source.now next.now.name)) }
 {
     let is_new = names.declare(text(source, next.name))?;
@@ -151,7 +151,7 @@ fn declare<'a>(
 
 /// The name and the values of a declaration.
 fn decl_of(alloc: Global, source: &[u8], next: &Declaration) -> Result<Decl, ModelError>
-    ensures { Gives (spec.decl_of source.now next.now) result }
+    ensures { GivesOrRunsOut (spec.decl_of source.now next.now) result }
 {
     let values = values(alloc, source, next.values.as_slice())?;
     let name = Name::new(alloc, text(source, next.name))?;
@@ -188,7 +188,7 @@ fn declarations<'a>(
     list: &[Declaration],
 ) -> Result<Read<'a>, ModelError>
     requires { limits.points < 2 ^ 32 }
-    ensures { Gives (spec.declarations source.now limits names.entry list.now) result }
+    ensures { GivesOrRunsOut (spec.declarations source.now limits names.entry list.now) result }
 {
     let mut read = Read {
         names,
@@ -203,7 +203,7 @@ fn declarations<'a>(
 
 /// The declared variables.
 fn variables_of<'a>(alloc: Global, source: &'a [u8], text: &Text) -> Result<Read<'a>, ModelError>
-    ensures { Gives (spec.declarations source.now spec.variable_limits [] text.now.variables.declarations) result }
+    ensures { GivesOrRunsOut (spec.declarations source.now spec.variable_limits [] text.now.variables.declarations) result }
 {
     declarations(
         alloc,
@@ -221,7 +221,7 @@ fn sights_of<'a>(
     names: Names<'a>,
     text: &Text,
 ) -> Result<Read<'a>, ModelError>
-    ensures { Gives (spec.declarations source.now spec.sight_limits names.entry text.now.observations.declarations) result }
+    ensures { GivesOrRunsOut (spec.declarations source.now spec.sight_limits names.entry text.now.observations.declarations) result }
 {
     declarations(
         alloc,
@@ -235,7 +235,7 @@ fn sights_of<'a>(
 /// The declarations of a text, or the first refusal among them.
 #[tactic(auto, using(crate::proofs::DeclarationLemmas::variables_err, crate::proofs::DeclarationLemmas::sights_err, crate::proofs::DeclarationLemmas::declarations_ok))]
 pub fn declarations_of(alloc: Global, source: &[u8], text: &Text) -> Result<Declared, ModelError>
-    ensures { Gives (spec.declarations_of source.now text.now) result }
+    ensures { GivesOrRunsOut (spec.declarations_of source.now text.now) result }
 {
     let variables = variables_of(alloc, source, text)?;
     let sights = sights_of(alloc, source, variables.names, text)?;

@@ -1,7 +1,7 @@
 //! What refuses a text.
 
 ghost use Rattle.std.specs.Prelude.{◌≡◌};
-ghost use Rattle.sp_declarations.specs.Steps.{Gives, unless_refused};
+ghost use Rattle.sp_declarations.specs.Steps.{GivesOrRunsOut, unless_refused};
 
 use sp_dd::NoMemory;
 use sp_trees::{ModelKind, Refusal};
@@ -50,7 +50,7 @@ impl<T: Drop> From<AllocFailed<T>> for ModelError {
 
 /// The refusal as an error, if there is one. Takes no memory.
 pub fn refuse(refused: Option<Refusal>) -> Result<(), ModelError>
-    ensures { Gives (unless_refused refused) result }
+    ensures { GivesOrRunsOut (unless_refused refused) result }
 {
     match refused {
         None => Ok(()),

@@ -7,12 +7,12 @@ use Rattle.sp_theory.specs.Model.{Model}
 use Rattle.sp_theory.specs.Values.{Weights, Edition, greatest_member}
 use Rattle.sp_theory.specs.Beliefs.{next_weights}
 use Rattle.sp_theory.specs.Agreement.{EditionsAgree, MembersAgree, NextAgree, AllAgree}
-use Rattle.sp_theory.specs.Logs.{Entry, told, act, observe, unseen, closing, Session, all_of, opening_session, observed, MayEnter, IsAnswer, after_entry, IsLog, session_after}
+use Rattle.sp_theory.specs.Logs.{Entry, told, act, observe, unseen, closing, Session, all_of, opening_session, weights_after_observation, MayEnter, IsAnswer, after_entry, IsLog, session_after}
 use Rattle.sp_theory.specs.SessionLaws.{SessionsAgree, ServesFor}
 use Rattle.sp_theory.proofs.Agreement.{greatest_member_agrees}
 use Rattle.sp_theory.proofs.LogLemmas.{next_agrees, after_entry_agrees, log_too, session_same}
 use Rattle.sp_faults.specs.Clauses as clause
-use Rattle.sp_faults.specs.Clauses.{Clause, IsFirst, entry_clauses}
+use Rattle.sp_faults.specs.Clauses.{Clause, IsFirstClause, entry_clauses}
 use Rattle.sp_faults.specs.LogFaults.{answer_of, AreSeen, EntryBreaks, IsEntryFault, IsWrongLog}
 use Rattle.sp_faults.specs.Laws.{WrongLogsAreNotLegal, LogsAreWrongOnce, NoLogIsNeither, WrongLogsAgree}
 use Rattle.sp_faults.proofs.Firsts.{first_one, first_none, first_alike, none_of_six, is_same}
@@ -82,7 +82,7 @@ module _ (m : Model) (editions : List Edition) where
   unfolding IsLog session_after
   goes_on s x xs i c w = (w.log.0, record { within = let less = w.within in omega (arith, less); log = w.log.1; fault = w.fault })
 
-  first_fault : (s : Session) (x : Entry) (xs : List Entry) (c : Clause) → Goes m editions s (x ∷ xs) 0 c → IsFirst (EntryBreaks m editions s x) entry_clauses c
+  first_fault : (s : Session) (x : Entry) (xs : List Entry) (c : Clause) → Goes m editions s (x ∷ xs) 0 c → IsFirstClause (EntryBreaks m editions s x) entry_clauses c
   unfolding session_after
   first_fault s x xs c w = w.fault
 
@@ -133,7 +133,7 @@ rest_seen m (unseen o) xs h = h.1
 rest_seen m (closing e id action) xs h = h
 
 -- an entry that breaks no clause may come
-may_enter : (m : Model) (editions : List Edition) (s : Session) (x : Entry) → AreSeen m (x ∷ []) → ((c : Clause) → ¬ IsFirst (EntryBreaks m editions s x) entry_clauses c) → MayEnter m (all_of editions) s x
+may_enter : (m : Model) (editions : List Edition) (s : Session) (x : Entry) → AreSeen m (x ∷ []) → ((c : Clause) → ¬ IsFirstClause (EntryBreaks m editions s x) entry_clauses c) → MayEnter m (all_of editions) s x
 unfolding MayEnter EntryBreaks
 may_enter m editions s (told e) seen none =
     let (going, there, older, other, deed, ruled) = none_of_six (EntryBreaks m editions s (told e)) clause.closing clause.edition clause.older clause.greatest clause.action clause.belief none in
@@ -144,10 +144,10 @@ may_enter m editions s (act e id action) seen none =
     (false_from_ne_true s.closed going, omega (arith, older), is_answer m editions s e id action less (is_same _ _ other) (is_same _ _ deed))
 may_enter m editions s (observe o) seen none =
     let (going, there, older, other, deed, ruled) = none_of_six (EntryBreaks m editions s (observe o)) clause.closing clause.edition clause.older clause.greatest clause.action clause.belief none in
-    (false_from_ne_true s.closed going, seen.0, true_from_ne_false (is_some (observed m s o)) ruled)
+    (false_from_ne_true s.closed going, seen.0, true_from_ne_false (is_some (weights_after_observation m s o)) ruled)
 may_enter m editions s (unseen o) seen none =
     let (going, there, older, other, deed, ruled) = none_of_six (EntryBreaks m editions s (unseen o)) clause.closing clause.edition clause.older clause.greatest clause.action clause.belief none in
-    (false_from_ne_true s.closed going, seen.0, true_from_ne_false (is_some s.acted) (λ h. ruled (inl h)), false_from_ne_true (is_some (observed m s o)) (λ h. ruled (inr h)))
+    (false_from_ne_true s.closed going, seen.0, true_from_ne_false (is_some s.acted) (λ h. ruled (inl h)), false_from_ne_true (is_some (weights_after_observation m s o)) (λ h. ruled (inr h)))
 may_enter m editions s (closing e id action) seen none =
     let (going, there, older, other, deed, ruled) = none_of_six (EntryBreaks m editions s (closing e id action)) clause.closing clause.edition clause.older clause.greatest clause.action clause.belief none in
     let less : e < length editions = omega (arith, there) in
@@ -201,8 +201,8 @@ some_same m (Some w) (Some x) h = refl
 some_same m None (Some x) h = absurd h
 some_same m (Some w) None h = absurd h
 
-pub observed_same : (m : Model) (s t : Session) → SessionsAgree m s t → (o : ℕ) → is_some (observed m s o) ≡ is_some (observed m t o)
-observed_same m s t agree o = some_same m (observed m s o) (observed m t o) (subst (λ (acted : Option ℕ). NextAgree m (observed m s o) (option_and_then (λ a. next_weights m t.weights a (point_of m.sight_sizes o)) acted)) agree.acted (by_acted s.acted))
+pub observed_same : (m : Model) (s t : Session) → SessionsAgree m s t → (o : ℕ) → is_some (weights_after_observation m s o) ≡ is_some (weights_after_observation m t o)
+observed_same m s t agree o = some_same m (weights_after_observation m s o) (weights_after_observation m t o) (subst (λ (acted : Option ℕ). NextAgree m (weights_after_observation m s o) (option_and_then (λ a. next_weights m t.weights a (point_of m.sight_sizes o)) acted)) agree.acted (by_acted s.acted))
   where
     by_acted : (acted : Option ℕ) → NextAgree m (option_and_then (λ a. next_weights m s.weights a (point_of m.sight_sizes o)) acted) (option_and_then (λ a. next_weights m t.weights a (point_of m.sight_sizes o)) acted)
     by_acted None = tt

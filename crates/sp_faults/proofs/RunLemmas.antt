@@ -6,8 +6,8 @@ use Rattle.sp_theory.specs.Runs.{IsHistory, replay}
 use Rattle.sp_theory.proofs.RecordedBackups as recorded
 use Rattle.sp_theory.proofs.SoundRuns.{run_is_sound}
 use Rattle.sp_faults.specs.Clauses as clause
-use Rattle.sp_faults.specs.Clauses.{Clause, IsFirst, event_clauses}
-use Rattle.sp_faults.specs.RunFaults.{AreSampled, EventBreaks, IsEventFault, IsWrongRun}
+use Rattle.sp_faults.specs.Clauses.{Clause, IsFirstClause, event_clauses}
+use Rattle.sp_faults.specs.RunFaults.{AreSettlesSampled, EventBreaks, IsEventFault, IsWrongRun}
 use Rattle.sp_faults.specs.Laws.{WrongRunsAreNotLegal, RunsAreWrongOnce, NoRunIsNeither, LegalRunsAreSound}
 use Rattle.sp_theory.proofs.Sound.{sound_opening}
 use Rattle.sp_theory.proofs.Tidy.{tidy_opening}
@@ -37,7 +37,7 @@ goes_on : (t : Task) (b : Book) (x : Event) (xs : List Event) (i : ℕ) (c : Cla
 unfolding IsHistory replay
 goes_on t b x xs i c w = (w.history.0, record { within = let less = w.within in omega (arith, less); history = w.history.1; fault = w.fault })
 
-first_fault : (t : Task) (b : Book) (x : Event) (xs : List Event) (c : Clause) → Goes t b (x ∷ xs) 0 c → IsFirst (EventBreaks t b x) event_clauses c
+first_fault : (t : Task) (b : Book) (x : Event) (xs : List Event) (c : Clause) → Goes t b (x ∷ xs) 0 c → IsFirstClause (EventBreaks t b x) event_clauses c
 unfolding replay
 first_fault t b x xs c w = w.fault
 
@@ -76,20 +76,20 @@ pub legal_runs_are_sound : LegalRunsAreSound
 legal_runs_are_sound t lawful some es (history, over) = (run_is_sound t lawful some es history, recorded.all_close t lawful some (opening t) es (sound_opening t) (tidy_opening t) history)
 
 -- ---- no run is neither legal nor wrong
-pub first_sampled : (t : Task) (x : Event) (xs : List Event) → AreSampled t (x ∷ xs) → AreSampled t (x ∷ [])
+pub first_sampled : (t : Task) (x : Event) (xs : List Event) → AreSettlesSampled t (x ∷ xs) → AreSettlesSampled t (x ∷ [])
 first_sampled t (settle k e a links) xs h = (h.0, tt)
 first_sampled t publish xs h = tt
 first_sampled t (prune pairs) xs h = tt
 first_sampled t end xs h = tt
 
-pub rest_sampled : (t : Task) (x : Event) (xs : List Event) → AreSampled t (x ∷ xs) → AreSampled t xs
+pub rest_sampled : (t : Task) (x : Event) (xs : List Event) → AreSettlesSampled t (x ∷ xs) → AreSettlesSampled t xs
 rest_sampled t (settle k e a links) xs h = h.1
 rest_sampled t publish xs h = h
 rest_sampled t (prune pairs) xs h = h
 rest_sampled t end xs h = h
 
 -- an event that breaks no clause can't be forbidden
-not_forbidden : (t : Task) (b : Book) (x : Event) → AreSampled t (x ∷ []) → ((c : Clause) → ¬ IsFirst (EventBreaks t b x) event_clauses c) → ¬ ¬ Allowed t b x
+not_forbidden : (t : Task) (b : Book) (x : Event) → AreSettlesSampled t (x ∷ []) → ((c : Clause) → ¬ IsFirstClause (EventBreaks t b x) event_clauses c) → ¬ ¬ Allowed t b x
 unfolding Allowed EventBreaks
 not_forbidden t b (settle k e a links) at none forbidden =
     let (going, there, backup, flag, pair, stage) = none_of_six (EventBreaks t b (settle k e a links)) clause.after_end clause.edition clause.backup clause.publish clause.prune clause.end none in
@@ -105,7 +105,7 @@ not_forbidden t b end at none forbidden =
     let (going, there, backup, flag, pair, stage) = none_of_six (EventBreaks t b end) clause.after_end clause.edition clause.backup clause.publish clause.prune clause.end none in
     forbidden (false_from_ne_true b.done going, is_same b.stages_left 0 stage)
 
-neither : (t : Task) (b : Book) (es : List Event) → AreSampled t es → ¬ (IsHistory t b es × ((replay t b es).done ≡ true)) → ¬ ((i : ℕ) (c : Clause) → ¬ Goes t b es i c)
+neither : (t : Task) (b : Book) (es : List Event) → AreSettlesSampled t es → ¬ (IsHistory t b es × ((replay t b es).done ≡ true)) → ¬ ((i : ℕ) (c : Clause) → ¬ Goes t b es i c)
 unfolding IsHistory replay
 neither t b [] sampled not_over none = by_end b.done refl
   where

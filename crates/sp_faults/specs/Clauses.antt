@@ -28,9 +28,9 @@ pub data Clause : Type 0 where
   belief : Clause
 
 -- of clauses in order, the first one that is broken
-abbrev pub IsFirst : (Clause → Type 0) → List Clause → Clause → Type 0
-IsFirst P [] c = ⊥
-IsFirst P (x ∷ xs) c = ((c ≡ x) × P x) ⊎ ((¬ P x) × IsFirst P xs c)
+abbrev pub IsFirstClause : (Clause → Type 0) → List Clause → Clause → Type 0
+IsFirstClause P [] c = ⊥
+IsFirstClause P (x ∷ xs) c = ((c ≡ x) × P x) ⊎ ((¬ P x) × IsFirstClause P xs c)
 
 -- the order at an event
 abbrev pub event_clauses : List Clause

@@ -8,7 +8,7 @@ use Rattle.sp_theory.specs.Runs.{IsLegal, replay}
 use Rattle.sp_theory.specs.Laws.{IsSound, AllClose}
 use Rattle.sp_theory.specs.Logs.{Entry, IsLegalLog}
 use Rattle.sp_faults.specs.Clauses.{Clause}
-use Rattle.sp_faults.specs.RunFaults.{AreSampled, IsWrongRun}
+use Rattle.sp_faults.specs.RunFaults.{AreSettlesSampled, IsWrongRun}
 use Rattle.sp_faults.specs.LogFaults.{AreSeen, IsWrongLog}
 use Rattle.sp_faults.specs.PruneTests.{can_prune}
 
@@ -23,7 +23,7 @@ RunsAreWrongOnce = (t : Task) (es : List Event) (i j : ℕ) (c d : Clause) → I
 
 -- and no run at sampled beliefs is neither legal nor wrong
 abbrev pub NoRunIsNeither : Type 0
-NoRunIsNeither = (t : Task) (es : List Event) → AreSampled t es → ¬ IsLegal t es → ¬ ((i : ℕ) (c : Clause) → ¬ IsWrongRun t es i c)
+NoRunIsNeither = (t : Task) (es : List Event) → AreSettlesSampled t es → ¬ IsLegal t es → ¬ ((i : ℕ) (c : Clause) → ¬ IsWrongRun t es i c)
 
 -- in a legal run, prompt or not, vectors are lower bounds, values at sampled beliefs never fall, and backups are close to the exact ones
 abbrev pub LegalRunsAreSound : Type 0

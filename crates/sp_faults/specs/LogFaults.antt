@@ -4,9 +4,9 @@ use Rattle.std.specs.Prelude.{IsSome, IsNone}
 use Rattle.sp_theory.specs.Points.{count_of}
 use Rattle.sp_theory.specs.Model.{Model}
 use Rattle.sp_theory.specs.Values.{Edition, Member, greatest_member}
-use Rattle.sp_theory.specs.Logs.{Entry, told, act, observe, unseen, closing, Session, opening_session, all_of, observed, IsLog, session_after}
+use Rattle.sp_theory.specs.Logs.{Entry, told, act, observe, unseen, closing, Session, opening_session, all_of, weights_after_observation, IsLog, session_after}
 use Rattle.sp_faults.specs.Clauses as clause
-use Rattle.sp_faults.specs.Clauses.{Clause, IsFirst, entry_clauses}
+use Rattle.sp_faults.specs.Clauses.{Clause, IsFirstClause, entry_clauses}
 
 -- the greatest member of the edition of that number at the session's weights
 abbrev pub answer_of : Model → List Edition → Session → ℕ → Member
@@ -29,14 +29,14 @@ EntryBreaks m editions s (act e id action) clause.greatest = id ≢ (answer_of m
 EntryBreaks m editions s (closing e id action) clause.greatest = id ≢ (answer_of m editions s e).id
 EntryBreaks m editions s (act e id action) clause.action = action ≢ (answer_of m editions s e).action
 EntryBreaks m editions s (closing e id action) clause.action = action ≢ (answer_of m editions s e).action
-EntryBreaks m editions s (observe o) clause.belief = IsNone (observed m s o)
-EntryBreaks m editions s (unseen o) clause.belief = IsNone s.acted ⊎ IsSome (observed m s o)
+EntryBreaks m editions s (observe o) clause.belief = IsNone (weights_after_observation m s o)
+EntryBreaks m editions s (unseen o) clause.belief = IsNone s.acted ⊎ IsSome (weights_after_observation m s o)
 EntryBreaks m editions s x c = ⊥
 
 -- what is wrong after a session with the entries that follow: the first of them breaks a clause and none before it in order, or there is none, and the log isn't closed
 abbrev pub IsEntryFault : Model → List Edition → Session → List Entry → Clause → Type 0
 IsEntryFault m editions s [] c = (s.closed ≡ false) × (c ≡ clause.closing)
-IsEntryFault m editions s (x ∷ xs) c = IsFirst (EntryBreaks m editions s x) entry_clauses c
+IsEntryFault m editions s (x ∷ xs) c = IsFirstClause (EntryBreaks m editions s x) entry_clauses c
 
 -- the first i entries may come one after another, and what follows them is wrong by that clause
 pub record IsWrongLog (m : Model) (editions : List Edition) (xs : List Entry) (i : ℕ) (c : Clause) : Type 0 where

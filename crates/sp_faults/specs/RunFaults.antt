@@ -4,7 +4,7 @@ use Rattle.sp_theory.specs.Backup.{IsBackup}
 use Rattle.sp_theory.specs.Book.{Task, Book, Event, settle, publish, prune, end, opening, editions, AllImproved, CanPrune}
 use Rattle.sp_theory.specs.Runs.{IsHistory, replay}
 use Rattle.sp_faults.specs.Clauses as clause
-use Rattle.sp_faults.specs.Clauses.{Clause, IsFirst, event_clauses}
+use Rattle.sp_faults.specs.Clauses.{Clause, IsFirstClause, event_clauses}
 
 -- an event breaks a clause after a book: the rows of the table of clauses, each by itself
 unfoldable pub EventBreaks : Task → Book → Event → Clause → Type 0
@@ -19,7 +19,7 @@ EventBreaks t b x c = ⊥
 -- what is wrong after a book with the events that follow: the first of them breaks a clause and none before it in order, or there is none, and the run is not over
 abbrev pub IsEventFault : Task → Book → List Event → Clause → Type 0
 IsEventFault t b [] c = (b.done ≡ false) × (c ≡ clause.unfinished)
-IsEventFault t b (x ∷ xs) c = IsFirst (EventBreaks t b x) event_clauses c
+IsEventFault t b (x ∷ xs) c = IsFirstClause (EventBreaks t b x) event_clauses c
 
 -- the first i events may come one after another, and what follows them is wrong by that clause
 pub record IsWrongRun (t : Task) (es : List Event) (i : ℕ) (c : Clause) : Type 0 where
@@ -28,9 +28,9 @@ pub record IsWrongRun (t : Task) (es : List Event) (i : ℕ) (c : Clause) : Type
   pub fault : IsEventFault t (replay t (opening t) (take i es)) (drop i es) c
 
 -- each settle is at a sampled belief, as the form of a plan file demands
-abbrev pub AreSampled : Task → List Event → Type 0
-AreSampled t [] = Unit {0}
-AreSampled t (settle k e a links ∷ xs) = (k < t.beliefs) × AreSampled t xs
-AreSampled t (publish ∷ xs) = AreSampled t xs
-AreSampled t (prune pairs ∷ xs) = AreSampled t xs
-AreSampled t (end ∷ xs) = AreSampled t xs
+abbrev pub AreSettlesSampled : Task → List Event → Type 0
+AreSettlesSampled t [] = Unit {0}
+AreSettlesSampled t (settle k e a links ∷ xs) = (k < t.beliefs) × AreSettlesSampled t xs
+AreSettlesSampled t (publish ∷ xs) = AreSettlesSampled t xs
+AreSettlesSampled t (prune pairs ∷ xs) = AreSettlesSampled t xs
+AreSettlesSampled t (end ∷ xs) = AreSettlesSampled t xs

@@ -78,23 +78,23 @@ module _ (m : problems.Model) (depth k : ℕ) (xs : List theory.Sample) (count :
     unfolding more
     more_last = sym (ap (λ (n : ℕ). get_or (xs ++ (x ∷ [])) n (theory.first_sample m)) (sym count) ∙ get_or-append_seam xs x [] (theory.first_sample m))
 
-    follows : theory.IsNext m (theory.parent_weights m depth k (theory.sample_at m xs k).weights) x
+    follows : theory.IsNextSample m (theory.parent_weights m depth k (theory.sample_at m xs k).weights) x
     follows = record { known = known; seen = seen; next = next_trans m _ _ _ (next_agrees m _ _ x.action _ parent_of_list) next }
 
-    next_in : (j : ℕ) → j < suc k → (z : theory.Sample) {y : theory.Sample} → y ≡ z → theory.IsNext m (theory.parent_weights m depth j (theory.sample_at m xs j).weights) y → theory.IsNext m (theory.parent_weights m depth j (theory.sample_at m more j).weights) z
-    next_in j less z {y} same is = subst (λ (z : theory.Sample). theory.IsNext m (theory.parent_weights m depth j (theory.sample_at m more j).weights) z) same (subst (λ (u : theory.Sample). theory.IsNext m (theory.parent_weights m depth j u.weights) y) (more_before j less) is)
+    next_in : (j : ℕ) → j < suc k → (z : theory.Sample) {y : theory.Sample} → y ≡ z → theory.IsNextSample m (theory.parent_weights m depth j (theory.sample_at m xs j).weights) y → theory.IsNextSample m (theory.parent_weights m depth j (theory.sample_at m more j).weights) z
+    next_in j less z {y} same is = subst (λ (z : theory.Sample). theory.IsNextSample m (theory.parent_weights m depth j (theory.sample_at m more j).weights) z) same (subst (λ (u : theory.Sample). theory.IsNextSample m (theory.parent_weights m depth j u.weights) y) (more_before j less) is)
 
     one_more : theory.AreSamplesOf m depth (xs ++ (x ∷ []))
     unfolding more
     one_more = record {
-      first = λ some. subst (theory.IsFirst m) (more_before 0 (omega arith)) (before.first (omega (arith, count)));
+      first = λ some. subst (theory.IsFirstSample m) (more_before 0 (omega arith)) (before.first (omega (arith, count)));
       later = λ j less. below_more next_at k
           (λ j less. next_in j (omega (arith, less)) (theory.sample_at m more (suc j)) (more_before (suc j) (omega (arith, less))) (before.later j (omega (arith, less, count))))
           (next_in k (omega arith) (theory.sample_at m more (suc k)) more_last follows) j (omega (arith, less, count, length-append xs (x ∷ [])));
     }
       where
         next_at : ℕ → Type 0
-        next_at j = theory.IsNext m (theory.parent_weights m depth j (theory.sample_at m (xs ++ (x ∷ [])) j).weights) (theory.sample_at m (xs ++ (x ∷ [])) (suc j))
+        next_at j = theory.IsNextSample m (theory.parent_weights m depth j (theory.sample_at m (xs ++ (x ∷ [])) j).weights) (theory.sample_at m (xs ++ (x ∷ [])) (suc j))
 
 pub moves_push : (xs : List Sample) (x : Sample) → 0 < length xs → moves_of (xs ++ (x ∷ [])) ≡ moves_of xs ++ (move_of x ∷ [])
 moves_push [] x some = absurd (omega (arith, some))

@@ -5,7 +5,7 @@ use Rattle.std.specs.Fmt.{decimal}
 use Rattle.std.proofs.lemmas.List.{append-nil}
 use Rattle.sp_value.specs.declared.tasks.Explore.{Explore}
 use Rattle.sp_value.specs.declared.tasks.Options.{Options}
-use Rattle.sp_lines.specs.Lines.{spaced, IsSmall, BeginsPair}
+use Rattle.sp_lines.specs.Lines.{numbers_behind_spaces, IsSmall, BeginsPair}
 use Rattle.sp_lines.proofs.Spaces.{pair_told, number_after, spaced_ends}
 use Rattle.sp_filed.specs.Sizes.{BeginsThree}
 use Rattle.sp_planfile.specs.PlanText.{options_line, explore_word, prune_word}
@@ -14,13 +14,13 @@ use Rattle.sp_planfile.proofs.Unique.{spaced_tells}
 use Rattle.sp_planfile.proofs.Sections.{behind_same}
 use Rattle.sp_planfile.proofs.OptionTexts.{explore_told, prune_told, explore_ends, same_options}
 
-pub one_same : (m n : ℕ) (text : List ℕ) → IsSmall m → IsSmall n → text ≡ spaced (m ∷ []) → text ≡ spaced (n ∷ []) → m ≡ n
+pub one_same : (m n : ℕ) (text : List ℕ) → IsSmall m → IsSmall n → text ≡ numbers_behind_spaces (m ∷ []) → text ≡ numbers_behind_spaces (n ∷ []) → m ≡ n
 one_same m n text a b e f = let same = spaced_tells (m ∷ []) (n ∷ []) (a, tt) (b, tt) (sym e ∙ f) in cc same
 
-pub two_same : (m x n y : ℕ) (text : List ℕ) → IsSmall m → IsSmall x → IsSmall n → IsSmall y → text ≡ spaced (m ∷ x ∷ []) → text ≡ spaced (n ∷ y ∷ []) → (m ≡ n) × (x ≡ y)
+pub two_same : (m x n y : ℕ) (text : List ℕ) → IsSmall m → IsSmall x → IsSmall n → IsSmall y → text ≡ numbers_behind_spaces (m ∷ x ∷ []) → text ≡ numbers_behind_spaces (n ∷ y ∷ []) → (m ≡ n) × (x ≡ y)
 two_same m x n y text a b c d e f = let same = spaced_tells (m ∷ x ∷ []) (n ∷ y ∷ []) (a, (b, tt)) (c, (d, tt)) (sym e ∙ f) in (cc same, cc same)
 
-pub third_same : (k m x l n y : ℕ) (text : List ℕ) → IsSmall k → IsSmall m → IsSmall x → IsSmall l → IsSmall n → IsSmall y → text ≡ spaced (k ∷ m ∷ x ∷ []) → text ≡ spaced (l ∷ n ∷ y ∷ []) → x ≡ y
+pub third_same : (k m x l n y : ℕ) (text : List ℕ) → IsSmall k → IsSmall m → IsSmall x → IsSmall l → IsSmall n → IsSmall y → text ≡ numbers_behind_spaces (k ∷ m ∷ x ∷ []) → text ≡ numbers_behind_spaces (l ∷ n ∷ y ∷ []) → x ≡ y
 third_same k m x l n y text a b c d g h e f = let same = spaced_tells (k ∷ m ∷ x ∷ []) (l ∷ n ∷ y ∷ []) (a, (b, (c, tt))) (d, (g, (h, tt))) (sym e ∙ f) in cc same
 
 -- ---- options
@@ -38,7 +38,7 @@ module _ (line text : List ℕ) (o : Options) (good : AreInRange o) (begins : li
   text_is : text ≡ 32 ∷ (decimal o.beliefs ++ (32 ∷ (decimal o.depth ++ behind_depth o)))
   unfolding behind_depth choices
   text_is =
-      behind_same (codes "options") text (spaced (o.beliefs ∷ o.depth ∷ o.stages ∷ o.seed ∷ []) ++ (explore_word o.explore ++ prune_word o.prune)) (sym begins ∙ is)
+      behind_same (codes "options") text (numbers_behind_spaces (o.beliefs ∷ o.depth ∷ o.stages ∷ o.seed ∷ []) ++ (explore_word o.explore ++ prune_word o.prune)) (sym begins ∙ is)
       ∙ regrouped (decimal o.beliefs) (decimal o.depth) (decimal o.stages) (decimal o.seed) (explore_word o.explore ++ prune_word o.prune)
 
   pub first_pair : BeginsPair text o.beliefs o.depth (behind_depth o)
@@ -64,15 +64,15 @@ options_same line t1 t2 t3 o r good begins p q words is =
     same_options r o one.0 one.1 two.0 two.1 three.0 three.1
 
 -- a settle is told: its numbers are those of one text
-pub settle_same : (text rest : List ℕ) (k e a k' e' a' : ℕ) (links : List ℕ) → BeginsThree text k' e' a' rest → AllByRecursion IsSmall (k ∷ e ∷ a ∷ links) → text ≡ spaced (k ∷ e ∷ a ∷ links) → (k' ≡ k) × (e' ≡ e) × (a' ≡ a) × (rest ≡ spaced links)
+pub settle_same : (text rest : List ℕ) (k e a k' e' a' : ℕ) (links : List ℕ) → BeginsThree text k' e' a' rest → AllByRecursion IsSmall (k ∷ e ∷ a ∷ links) → text ≡ numbers_behind_spaces (k ∷ e ∷ a ∷ links) → (k' ≡ k) × (e' ≡ e) × (a' ≡ a) × (rest ≡ numbers_behind_spaces links)
 settle_same text rest k e a k' e' a' links begins small is =
-    let pair = pair_told text k' e' begins.middle k e (spaced (a ∷ links)) begins.pair (record { is = is; small = (small.0, small.1.0); ends = λ r. omega (arith, r) }) in
-    let third = number_after begins.middle a' rest a (spaced links) begins.third (record { is = pair.2; small = small.1.1.0; ends = spaced_ends links }) in
+    let pair = pair_told text k' e' begins.middle k e (numbers_behind_spaces (a ∷ links)) begins.pair (record { is = is; small = (small.0, small.1.0); ends = λ r. omega (arith, r) }) in
+    let third = number_after begins.middle a' rest a (numbers_behind_spaces links) begins.third (record { is = pair.2; small = small.1.1.0; ends = spaced_ends links }) in
     (pair.0, pair.1, third.0, third.1)
 
-pub settle_begins : (text : List ℕ) (k e a : ℕ) (links : List ℕ) → AllByRecursion IsSmall (k ∷ e ∷ a ∷ links) → text ≡ spaced (k ∷ e ∷ a ∷ links) → BeginsThree text k e a (spaced links)
+pub settle_begins : (text : List ℕ) (k e a : ℕ) (links : List ℕ) → AllByRecursion IsSmall (k ∷ e ∷ a ∷ links) → text ≡ numbers_behind_spaces (k ∷ e ∷ a ∷ links) → BeginsThree text k e a (numbers_behind_spaces links)
 settle_begins text k e a links small is = record {
-  middle = spaced (a ∷ links);
+  middle = numbers_behind_spaces (a ∷ links);
   pair = record { is = is; small = (small.0, small.1.0); ends = λ r. omega (arith, r) };
   third = record { is = refl; small = small.1.1.0; ends = spaced_ends links };
 }

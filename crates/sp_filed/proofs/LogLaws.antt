@@ -13,7 +13,7 @@ use Rattle.sp_planfile.specs.Form.{IsEntryInForm, IsLogInForm}
 use Rattle.sp_planfile.proofs.Sections.{cut_at, count_told, behind_same}
 use Rattle.sp_planfile.proofs.LogTexts.{entry_small, entry_lacks, no_entry, name_lacks, log_rest}
 use Rattle.sp_filed.specs.declared.sizes.Sizes.{Sizes}
-use Rattle.sp_filed.specs.Sizes.{IsEntryOf}
+use Rattle.sp_filed.specs.Sizes.{IsEntryWithin}
 use Rattle.sp_filed.specs.Stops.{IsLogOf, AreLogs, IsFreshName, HasNoEntry, StopsBeforeLog, StopsInLogs, names_of, session_line}
 use Rattle.sp_filed.specs.Tails.{StopsAtEnd, StopsBehindValues}
 
@@ -21,7 +21,7 @@ pub logs_of_form : (s : Sizes) (logs : List Log) → IsSmall s.actions → IsSma
 logs_of_form s [] few less all = tt
 logs_of_form s (log ∷ logs) few less all = (record { name = all.0.name; entries = entries log.entries all.0.entries }, logs_of_form s logs few less all.1)
   where
-    entries : (xs : List Entry) → AllByRecursion (IsEntryInForm s.actions s.joint) xs → AllByRecursion (IsEntryOf s) xs
+    entries : (xs : List Entry) → AllByRecursion (IsEntryInForm s.actions s.joint) xs → AllByRecursion (IsEntryWithin s) xs
     entries [] good = tt
     entries (x ∷ xs) good = ((good.0, entry_small s.actions s.joint x few less good.0), entries xs good.1)
 
@@ -39,9 +39,9 @@ record GoesOn (s : Sizes) (xs ys : List Log) (us vs : List ℕ) : Type 0 where
 module _ (s : Sizes) where
   -- no entry stands first
   abbrev HasNone : List ℕ → Type 0
-  HasNone text = ¬ (BeginsLineOf entry_line (IsEntryOf s) text)
+  HasNone text = ¬ (BeginsLineOf entry_line (IsEntryWithin s) text)
 
-  entries_end : (xs ys : List Entry) (us vs : List ℕ) → AllByRecursion (IsEntryOf s) xs → AllByRecursion (IsEntryOf s) ys → HasNone us → HasNone vs → lines_of entry_line xs ++ us ≡ lines_of entry_line ys ++ vs → us ≡ vs
+  entries_end : (xs ys : List Entry) (us vs : List ℕ) → AllByRecursion (IsEntryWithin s) xs → AllByRecursion (IsEntryWithin s) ys → HasNone us → HasNone vs → lines_of entry_line xs ++ us ≡ lines_of entry_line ys ++ vs → us ≡ vs
   entries_end [] [] us vs a b f g e = e
   entries_end [] (y ∷ ys) us vs a b f g e = absurd (f (y, lines_of entry_line ys ++ vs, b.0, e ∙ append_assoc (entry_line y) (10 ∷ lines_of entry_line ys) vs))
   entries_end (x ∷ xs) [] us vs a b f g e = absurd (g (x, lines_of entry_line xs ++ us, a.0, sym e ∙ append_assoc (entry_line x) (10 ∷ lines_of entry_line xs) us))

@@ -18,7 +18,7 @@ use Rattle.sp_model.specs.Links.{sample_of}
 use Rattle.sp_lines.specs.Lines.{lines_of, Lacks, IsSmall}
 use Rattle.sp_planfile.specs.Contents.{moves_of, move_of}
 use Rattle.sp_planfile.specs.PlanText.{belief_line}
-use Rattle.sp_planfile.specs.Form.{IsMove}
+use Rattle.sp_planfile.specs.Form.{IsParentMove}
 use Rattle.sp_planfile.proofs.Sections.{cut_at}
 use Rattle.sp_planfile.proofs.Whole.{move_lacks, move_tells}
 use Rattle.sp_filed.specs.declared.sizes.Sizes.{Sizes}
@@ -27,7 +27,7 @@ use Rattle.sp_filed.specs.Sampled.{TellsSome, StopsInMoves, IsUnseenMove, parent
 use Rattle.sp_filed.proofs.Beliefs.{weights_sym, next_trans}
 use Rattle.sp_filed.proofs.LineLaws.{next_line}
 
-pub moves_of_form : (s : Sizes) (xs : List (ℕ × ℕ)) → IsSmall s.actions → IsSmall s.joint → AllByRecursion (IsMove s.actions s.joint) xs → AllByRecursion (IsMoveOf s) xs
+pub moves_of_form : (s : Sizes) (xs : List (ℕ × ℕ)) → IsSmall s.actions → IsSmall s.joint → AllByRecursion (IsParentMove s.actions s.joint) xs → AllByRecursion (IsMoveOf s) xs
 moves_of_form s [] few less all = tt
 moves_of_form s (x ∷ xs) few less all = ((all.0, (omega (arith, all.0.0, few), omega (arith, all.0.1, less))), moves_of_form s xs few less all.1)
 
@@ -63,7 +63,7 @@ module _ (p : Parts) (d : theory.Sample) where
 module _ (m : problems.Model) (depth : ℕ) (xs rs : List theory.Sample) (a : theory.AreSamplesOf m depth xs) (b : theory.AreSamplesOf m depth rs) (within : length rs ≤ length xs)
     (same : (j : ℕ) → suc j < length rs → ((theory.sample_at m xs (suc j)).action ≡ (theory.sample_at m rs (suc j)).action) × ((theory.sample_at m xs (suc j)).observation ≡ (theory.sample_at m rs (suc j)).observation)) where
   -- the next weights of the second list's samples after what agrees with the first list's parent
-  follows : (v w : Weights) (x y : theory.Sample) → x.action ≡ y.action → x.observation ≡ y.observation → WeightsAgree m v w → theory.IsNext m v x → theory.IsNext m w y → WeightsAgree m x.weights y.weights
+  follows : (v w : Weights) (x y : theory.Sample) → x.action ≡ y.action → x.observation ≡ y.observation → WeightsAgree m v w → theory.IsNextSample m v x → theory.IsNextSample m w y → WeightsAgree m x.weights y.weights
   follows v w x y action observation agree f g =
       let moved : NextAgree m (next_weights m w y.action (point_of m.sight_sizes y.observation)) (Some x.weights) =
       subst (λ k. NextAgree m (next_weights m w k (point_of m.sight_sizes y.observation)) (Some x.weights)) action

@@ -16,9 +16,9 @@ use Rattle.sp_filed.specs.declared.error.PlanKind.{PlanKind}
 use Rattle.sp_filed.specs.declared.error.PlanKind.TheVariants.{Model, Sample, Shape}
 use Rattle.sp_filed.specs.Tails.{StopsBehindModel, IsUnseenBehindModel, IsReadBehindModel}
 use Rattle.sp_planfile.specs.ModelText.{model_bytes}
-use Rattle.sp_filed.specs.Files.{IsPlanFile, IsDivided, IsModelText, IsFaultBefore, IsSecondVersion, IsReason, StopsInRest}
+use Rattle.sp_filed.specs.Files.{IsPlanFile, IsDivided, IsModelText, IsFaultBefore, IsSecondVersion, IsSampleReason, StopsInRest}
 
-pub rest_told : (has_values : Bool) (p : Parts) (text : List ℕ) (stop : Unsampled) (left : ℕ) (kind : PlanKind) → IsReason stop left kind
+pub rest_told : (has_values : Bool) (p : Parts) (text : List ℕ) (stop : Unsampled) (left : ℕ) (kind : PlanKind) → IsSampleReason stop left kind
     → ((n : ℕ) → stop ≡ stops.Shape n → StopsBehindModel has_values p text n) → ((n : ℕ) → stop ≡ stops.Sample n → IsUnseenBehindModel p text n) → StopsInRest has_values p text left kind
 rest_told has_values p text stop left Shape reason shape sample = shape left reason
 rest_told has_values p text stop left Sample reason shape sample = sample left reason

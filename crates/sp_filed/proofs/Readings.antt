@@ -17,10 +17,10 @@ use Rattle.sp_value.specs.declared.tasks.Options.{Options}
 use Rattle.sp_value.specs.Events.{events_of}
 use Rattle.sp_session.specs.declared.logs.SessionLog.{SessionLog}
 use Rattle.sp_session.specs.Logs.{logs_of}
-use Rattle.sp_lines.specs.Lines.{spaced, lines_of, Lacks}
+use Rattle.sp_lines.specs.Lines.{numbers_behind_spaces, lines_of, Lacks}
 use Rattle.sp_planfile.specs.Contents.{moves_of, move_of}
 use Rattle.sp_planfile.specs.PlanText.{options_line, explore_word, prune_word, belief_line, events_section, values_text}
-use Rattle.sp_planfile.specs.Form.{AreInRange, AreValues, IsMove, IsEventInForm, IsEntryInForm, IsLogInForm, edition_count}
+use Rattle.sp_planfile.specs.Form.{AreInRange, AreValuesOfEditions, IsParentMove, IsEventInForm, IsEntryInForm, IsLogInForm, edition_count}
 use Rattle.sp_planfile.proofs.Sections.{lacks-append}
 use Rattle.sp_planfile.proofs.Unique.{spaced_lacks, letters}
 use Rattle.sp_filed.specs.declared.sizes.Sizes.{Sizes}
@@ -37,9 +37,9 @@ prune_lacks false = letters (codes " no") (omega arith, (omega arith, (omega ari
 
 pub options_lacks : (o : Options) → AreInRange o → Lacks 10 (options_line o)
 options_lacks o good =
-    lacks-append 10 (codes "options") (spaced (o.beliefs ∷ o.depth ∷ o.stages ∷ o.seed ∷ []) ++ (explore_word o.explore ++ prune_word o.prune))
+    lacks-append 10 (codes "options") (numbers_behind_spaces (o.beliefs ∷ o.depth ∷ o.stages ∷ o.seed ∷ []) ++ (explore_word o.explore ++ prune_word o.prune))
     (letters (codes "options") (omega arith, (omega arith, (omega arith, (omega arith, (omega arith, (omega arith, (omega arith, tt))))))))
-    (lacks-append 10 (spaced (o.beliefs ∷ o.depth ∷ o.stages ∷ o.seed ∷ [])) (explore_word o.explore ++ prune_word o.prune)
+    (lacks-append 10 (numbers_behind_spaces (o.beliefs ∷ o.depth ∷ o.stages ∷ o.seed ∷ [])) (explore_word o.explore ++ prune_word o.prune)
     (spaced_lacks (o.beliefs ∷ o.depth ∷ o.stages ∷ o.seed ∷ []) (omega (arith, good.few_beliefs), (omega (arith, good.few_depth), (omega (arith, good.few_stages), (good.seed, tt)))))
     (lacks-append 10 (explore_word o.explore) (prune_word o.prune) (explore_lacks o.explore) (prune_lacks o.prune)))
 
@@ -59,7 +59,7 @@ version_is : (has_values : Bool) (editions : ℕ) (values : Option (List ℤ)) �
 version_is has_values editions None is = sym is
 version_is has_values editions (Some values) is = sym is.0
 
-values_in_form : (has_values : Bool) (events : List book.Event) (values : Option (List ℤ)) → AreVersionValues has_values (suc (edition_count events)) values → AreValues events values
+values_in_form : (has_values : Bool) (events : List book.Event) (values : Option (List ℤ)) → AreVersionValues has_values (suc (edition_count events)) values → AreValuesOfEditions events values
 values_in_form has_values events None is = tt
 values_in_form has_values events (Some values) is = (is.1, is.2, is.3)
 
@@ -92,7 +92,7 @@ read_model has_values p o text rest xs events values transcript known good is re
         model = lines;
         options = good;
         move_count = moves_count xs (omega (arith, read.count, good.some_beliefs)) ∙ read.count;
-        moves = all_first (IsMove (length p.actions) (count_of (sizes_of p.sights))) _ (moves_of xs) read.sampled.moves;
+        moves = all_first (IsParentMove (length p.actions) (count_of (sizes_of p.sights))) _ (moves_of xs) read.sampled.moves;
         event_count = moves.count;
         events = all_first (IsEventInForm o.beliefs (length p.actions) (count_of (sizes_of p.sights))) _ (events_of events) moves.good;
         values = values_in_form has_values (events_of events) values tail.values;

@@ -17,7 +17,7 @@ use Rattle.sp_planfile.proofs.LogTexts.{name_lacks, log_rest}
 use Rattle.sp_planfile.proofs.Sections.{cut_at, lacks-append, behind_same}
 use Rattle.sp_names.specs.Names.{with_name}
 use Rattle.sp_filed.specs.declared.sizes.Sizes.{Sizes}
-use Rattle.sp_filed.specs.Sizes.{IsEntryOf}
+use Rattle.sp_filed.specs.Sizes.{IsEntryWithin}
 use Rattle.sp_filed.specs.Stops.{session_line, names_of, IsLogOf, AreLogs, IsFreshName, HasNoEntry}
 
 pub session_lacks : (name : List ℕ) → IsSessionName name → Lacks 10 (session_line name)
@@ -64,7 +64,7 @@ logs_good s logs x good log new = record {
   different = subst (AllPairs (λ x y. x ≢ y)) (sym (map-append (λ (l : Log). l.name) logs (x ∷ []))) (all_pairs_push (λ x y. x ≢ y) (names_of logs) x.name good.different (λ k d h. new k d h));
 }
 
-pub no_entry_push : (s : Sizes) (logs : List Log) (x : Log) (text : List ℕ) → ¬ (BeginsLineOf entry_line (IsEntryOf s) text) → HasNoEntry s (logs ++ (x ∷ [])) text
+pub no_entry_push : (s : Sizes) (logs : List Log) (x : Log) (text : List ℕ) → ¬ (BeginsLineOf entry_line (IsEntryWithin s) text) → HasNoEntry s (logs ++ (x ∷ [])) text
 no_entry_push s [] x text none = none
 no_entry_push s (log ∷ logs) x text none = none
 

@@ -4,7 +4,7 @@ use Rattle.std.specs.Prelude.{IsTrue, MatchOption}
 use Rattle.std.specs.List.{AllByRecursion}
 use Rattle.std.proofs.lemmas.Bool.{false≢true}
 use Rattle.sp_theory.specs.Book.{Event}
-use Rattle.sp_lines.specs.Lines.{spaced, lines_of, Lacks, IsSmall, BeginsLine, EndsEarly}
+use Rattle.sp_lines.specs.Lines.{numbers_behind_spaces, lines_of, Lacks, IsSmall, BeginsLine, EndsEarly}
 use Rattle.sp_lines.proofs.Lists.{no_line, other_line}
 use Rattle.sp_planfile.specs.RunText.{event_line}
 use Rattle.sp_planfile.specs.PlanText.{count_line}
@@ -30,7 +30,7 @@ plain_lacks (b ∷ word) plain =
     ((λ e. false≢true (subst (λ b. IsTrue (nat_lt 10 b)) e parts.0)), plain_lacks word parts.1)
 
 count_lacks : (word : List ℕ) → IsTrue (is_plain word) → (n : ℕ) → IsSmall n → Lacks 10 (count_line word n)
-count_lacks word plain n small = lacks-append 10 word (spaced (n ∷ [])) (plain_lacks word plain) (spaced_lacks (n ∷ []) (small, tt))
+count_lacks word plain n small = lacks-append 10 word (numbers_behind_spaces (n ∷ [])) (plain_lacks word plain) (spaced_lacks (n ∷ []) (small, tt))
 
 pub no_count : (word text : List ℕ) (left : ℕ) → Lacks 10 text → left ≡ length text → HasNoCount word text left
 no_count word text left lacks bytes = (no_line (count_line word) IsSmall text lacks, bytes)

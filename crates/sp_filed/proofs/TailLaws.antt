@@ -7,7 +7,7 @@ use Rattle.sp_theory.specs.Logs.{Log}
 use Rattle.sp_lines.specs.Lines.{lines_of, IsSmall, EndsEarly}
 use Rattle.sp_planfile.specs.RunText.{event_line}
 use Rattle.sp_planfile.specs.PlanText.{count_line, value_line, events_section, values_text, logs_section}
-use Rattle.sp_planfile.specs.Form.{AreValues, IsValue, edition_count}
+use Rattle.sp_planfile.specs.Form.{AreValuesOfEditions, IsTickValue, edition_count}
 use Rattle.sp_planfile.proofs.Unique.{line_tells}
 use Rattle.sp_planfile.proofs.Sections.{count_told, lines_told, behind_same}
 use Rattle.sp_planfile.proofs.ValueTexts.{value_tells, value_lacks}
@@ -33,25 +33,25 @@ module _ (s : Sizes) where
   in_values_once editions text left right (inr (rest, is, early)) (inl b) = absurd (b.0 rest is)
   in_values_once editions text left right (inr (rest, is, early)) (inr (more, e, again)) =
       let same : rest ≡ more = behind_same (10 ∷ []) rest more (behind_same (values_line editions) (10 ∷ rest) (10 ∷ more) (sym is ∙ e)) in
-      early_once value_line IsValue value_lacks value_tells editions rest left right early (subst (λ l. EndsEarly value_line IsValue editions l right) (sym same) again)
+      early_once value_line IsTickValue value_lacks value_tells editions rest left right early (subst (λ l. EndsEarly value_line IsTickValue editions l right) (sym same) again)
 
   -- the values of so many editions, and what comes after them
   values_are : (editions : ℕ) (values : List ℤ) (rest text : List ℕ) → length values ≡ editions → text ≡ values_text (Some values) ++ rest → text ≡ values_line editions ++ (10 ∷ (lines_of value_line values ++ rest))
   values_are editions values rest text count is = is ∙ append_assoc (values_line (length values)) (10 ∷ lines_of value_line values) rest ∙ ap (λ n. values_line n ++ (10 ∷ (lines_of value_line values ++ rest))) count
 
-  no_stop_in_values : (editions : ℕ) (values : List ℤ) (rest text : List ℕ) (left : ℕ) → AllByRecursion IsValue values → length values ≡ editions → text ≡ values_text (Some values) ++ rest → StopsInValues editions text left → ⊥
+  no_stop_in_values : (editions : ℕ) (values : List ℤ) (rest text : List ℕ) (left : ℕ) → AllByRecursion IsTickValue values → length values ≡ editions → text ≡ values_text (Some values) ++ rest → StopsInValues editions text left → ⊥
   no_stop_in_values editions values rest text left all count is (inl (none, bytes)) = none (lines_of value_line values ++ rest) (values_are editions values rest text count is)
   no_stop_in_values editions values rest text left all count is (inr (more, e, early)) =
       let same = behind_same (10 ∷ []) (lines_of value_line values ++ rest) more (behind_same (values_line editions) (10 ∷ (lines_of value_line values ++ rest)) (10 ∷ more) (sym (values_are editions values rest text count is) ∙ e)) in
-      no_early_end value_line IsValue value_lacks value_tells values rest more editions left all count same early
+      no_early_end value_line IsTickValue value_lacks value_tells values rest more editions left all count same early
 
   -- behind as many values the same comes
-  rest_behind_values : (editions : ℕ) (values others : List ℤ) (rest more text : List ℕ) → AllByRecursion IsValue values → AllByRecursion IsValue others → length values ≡ editions → length others ≡ editions
+  rest_behind_values : (editions : ℕ) (values others : List ℤ) (rest more text : List ℕ) → AllByRecursion IsTickValue values → AllByRecursion IsTickValue others → length values ≡ editions → length others ≡ editions
       → text ≡ values_text (Some values) ++ rest → text ≡ values_text (Some others) ++ more → rest ≡ more
   rest_behind_values editions values others rest more text all each count size is e =
       let behind = behind_same (10 ∷ []) (lines_of value_line values ++ rest) (lines_of value_line others ++ more)
       (behind_same (values_line editions) (10 ∷ (lines_of value_line values ++ rest)) (10 ∷ (lines_of value_line others ++ more)) (sym (values_are editions values rest text count is) ∙ values_are editions others more text size e)) in
-      (lines_told value_line IsValue value_lacks value_tells values others rest more (count ∙ sym size) all each behind).1
+      (lines_told value_line IsTickValue value_lacks value_tells values others rest more (count ∙ sym size) all each behind).1
 
   behind_events_once : (has_values : Bool) (editions : ℕ) (text : List ℕ) (left right : ℕ) → StopsBehindEvents has_values editions s text left → StopsBehindEvents has_values editions s text right → left ≡ right
   behind_events_once false editions text left right a b = behind_values_once s text left right a b
@@ -105,7 +105,7 @@ module _ (s : Sizes) where
     abbrev tail : List ℕ
     tail = logs_section logs ++ codes "done\n"
 
-    no_stop_behind_events : (editions : ℕ) (events : List Event) (values : Option (List ℤ)) (left : ℕ) → editions ≡ suc (edition_count events) → AreValues events values
+    no_stop_behind_events : (editions : ℕ) (events : List Event) (values : Option (List ℤ)) (left : ℕ) → editions ≡ suc (edition_count events) → AreValuesOfEditions events values
         → StopsBehindEvents (is_some values) editions s (values_text values ++ tail) left → ⊥
     no_stop_behind_events editions events None left count form stops = no_stop_behind_values s logs small good left stops
     no_stop_behind_events editions events (Some values) left count form (inl a) = no_stop_in_values editions values tail (values_text (Some values) ++ tail) left form.2 (form.0 ∙ sym count) refl a
@@ -113,7 +113,7 @@ module _ (s : Sizes) where
         let behind = rest_behind_values editions values others tail rest (values_text (Some values) ++ tail) form.2 all (form.0 ∙ sym count) size refl is in
         no_stop_behind_values s logs small good left (subst (λ l. StopsBehindValues s l left) (sym behind) stops)
 
-    pub no_stop_behind_moves : (events : List Event) (values : Option (List ℤ)) (left : ℕ) → IsSmall (length events) → AllByRecursion (IsEventOf s) events → AreValues events values
+    pub no_stop_behind_moves : (events : List Event) (values : Option (List ℤ)) (left : ℕ) → IsSmall (length events) → AllByRecursion (IsEventOf s) events → AreValuesOfEditions events values
         → StopsBehindMoves (is_some values) s (events_section events ++ (values_text values ++ tail)) left → ⊥
     no_stop_behind_moves events values left few all form (inl a) = no_stop_in_events events (values_text values ++ tail) (events_section events ++ (values_text values ++ tail)) left all few refl a
     no_stop_behind_moves events values left few all form (inr (others, rest, each, less, is, stops)) =

@@ -67,10 +67,10 @@ abbrev pub IsFirstVersionFault : List ℕ → ℕ → PlanKind → Type 0
 IsFirstVersionFault source at kind = (IsSecondVersion source × (at ≡ 0) × (kind ≡ Shape)) ⊎ ((¬ (IsSecondVersion source)) × IsFault source at kind)
 
 -- a reason behind the model, as a fault
-abbrev pub IsReason : Unsampled → ℕ → PlanKind → Type 0
-IsReason stop left Shape = stop ≡ stops.Shape left
-IsReason stop left Sample = stop ≡ stops.Sample left
-IsReason stop left Model = ⊥
+abbrev pub IsSampleReason : Unsampled → ℕ → PlanKind → Type 0
+IsSampleReason stop left Shape = stop ≡ stops.Shape left
+IsSampleReason stop left Sample = stop ≡ stops.Sample left
+IsSampleReason stop left Model = ⊥
 
 -- where it stops behind the model
 abbrev pub StopsInRest : Bool → Parts → List ℕ → ℕ → PlanKind → Type 0

@@ -6,17 +6,17 @@ use Rattle.sp_theory.specs.Book.{Event}
 use Rattle.sp_theory.specs.Logs.{Entry}
 use Rattle.sp_filed.specs.declared.sizes.Sizes.{Sizes}
 use Rattle.sp_planfile.specs.RunText.{HasSmall}
-use Rattle.sp_planfile.specs.Form.{IsMove, IsEventInForm, IsEntryInForm, HasSmallNumbers}
+use Rattle.sp_planfile.specs.Form.{IsParentMove, IsEventInForm, IsEntryInForm, HasSmallNumbers}
 
 -- what the form demands of each, with numbers of 64 bits
 abbrev pub IsMoveOf : Sizes → ℕ × ℕ → Type 0
-IsMoveOf s move = IsMove s.actions s.joint move × IsSmallPair move
+IsMoveOf s move = IsParentMove s.actions s.joint move × IsSmallPair move
 
 abbrev pub IsEventOf : Sizes → Event → Type 0
 IsEventOf s event = IsEventInForm s.beliefs s.actions s.joint event × HasSmall event
 
-abbrev pub IsEntryOf : Sizes → Entry → Type 0
-IsEntryOf s entry = IsEntryInForm s.actions s.joint entry × HasSmallNumbers entry
+abbrev pub IsEntryWithin : Sizes → Entry → Type 0
+IsEntryWithin s entry = IsEntryInForm s.actions s.joint entry × HasSmallNumbers entry
 
 -- the pairs of a prune
 abbrev pub IsPrune : List (ℕ × ℕ) → Type 0

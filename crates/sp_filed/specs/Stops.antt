@@ -5,9 +5,9 @@ use Rattle.sp_theory.specs.Logs.{Log}
 use Rattle.sp_lines.specs.Lines.{IsSmall, BeginsLineOf, EndsEarly}
 use Rattle.sp_planfile.specs.RunText.{event_line}
 use Rattle.sp_planfile.specs.PlanText.{count_line, entry_line, value_line, logs_text}
-use Rattle.sp_planfile.specs.Form.{IsValue, IsSessionName}
+use Rattle.sp_planfile.specs.Form.{IsTickValue, IsSessionName}
 use Rattle.sp_filed.specs.declared.sizes.Sizes.{Sizes}
-use Rattle.sp_filed.specs.Sizes.{IsEventOf, IsEntryOf}
+use Rattle.sp_filed.specs.Sizes.{IsEventOf, IsEntryWithin}
 
 -- no line with a word and a count stands first
 abbrev pub HasNoCount : List ℕ → List ℕ → ℕ → Type 0
@@ -23,12 +23,12 @@ StopsInEvents s text left =
 abbrev pub StopsInValues : ℕ → List ℕ → ℕ → Type 0
 StopsInValues editions text left =
     (((rest : List ℕ) → text ≢ count_line (codes "values") editions ++ (10 ∷ rest)) × (left ≡ length text))
-    ⊎ ((rest : List ℕ) × (text ≡ count_line (codes "values") editions ++ (10 ∷ rest)) × EndsEarly value_line IsValue editions rest left)
+    ⊎ ((rest : List ℕ) × (text ≡ count_line (codes "values") editions ++ (10 ∷ rest)) × EndsEarly value_line IsTickValue editions rest left)
 
 -- a log in form with numbers of 64 bits
 pub record IsLogOf (s : Sizes) (log : Log) : Type 0 where
   pub name : IsSessionName log.name
-  pub entries : AllByRecursion (IsEntryOf s) log.entries
+  pub entries : AllByRecursion (IsEntryWithin s) log.entries
 
 abbrev pub names_of : List Log → List (List ℕ)
 names_of logs = map (λ log. log.name) logs
@@ -48,7 +48,7 @@ IsFreshName logs name = IsSessionName name × All (λ other. other ≢ name) (na
 -- where a log is open, no entry stands first
 abbrev pub HasNoEntry : Sizes → List Log → List ℕ → Type 0
 HasNoEntry s [] text = Unit {0}
-HasNoEntry s (log ∷ logs) text = ¬ (BeginsLineOf entry_line (IsEntryOf s) text)
+HasNoEntry s (log ∷ logs) text = ¬ (BeginsLineOf entry_line (IsEntryWithin s) text)
 
 -- some of a count of logs are there, and the text goes on neither with an entry of the last of them nor with the line of a new session
 pub record StopsBeforeLog (s : Sizes) (count : ℕ) (text : List ℕ) (left : ℕ) : Type 0 where

@@ -14,7 +14,7 @@ use Rattle.sp_session.specs.declared.logs.SessionLog.{SessionLog}
 use Rattle.sp_lines.specs.Lines.{lines_of, IsSmall, BeginsLineOf}
 use Rattle.sp_planfile.specs.Contents.{contents_of, moves_of}
 use Rattle.sp_planfile.specs.PlanText.{options_line, belief_line, events_section, logs_section, values_text, text_from_options}
-use Rattle.sp_planfile.specs.Form.{AreInRange, AreModelLines, IsInForm, IsValue, edition_count}
+use Rattle.sp_planfile.specs.Form.{AreInRange, AreModelLines, IsInForm, IsTickValue, edition_count}
 use Rattle.sp_filed.specs.declared.sizes.Sizes.{Sizes}
 use Rattle.sp_filed.specs.Sizes.{IsEventOf}
 use Rattle.sp_filed.specs.Sampled.{AreSampledBy, StopsInMoves, IsUnseenMove}
@@ -36,7 +36,7 @@ abbrev pub StopsBehindEvents : Bool → ℕ → Sizes → List ℕ → ℕ → T
 StopsBehindEvents false editions s text left = StopsBehindValues s text left
 StopsBehindEvents true editions s text left =
     StopsInValues editions text left
-    ⊎ ((values : List ℤ) × (rest : List ℕ) × AllByRecursion IsValue values × (length values ≡ editions) × (text ≡ values_text (Some values) ++ rest) × StopsBehindValues s rest left)
+    ⊎ ((values : List ℤ) × (rest : List ℕ) × AllByRecursion IsTickValue values × (length values ≡ editions) × (text ≡ values_text (Some values) ++ rest) × StopsBehindValues s rest left)
 
 abbrev pub StopsBehindMoves : Bool → Sizes → List ℕ → ℕ → Type 0
 StopsBehindMoves has_values s text left =
@@ -52,7 +52,7 @@ pub record AreReadLogs (s : Sizes) (text : List ℕ) (ls : List logs.Log) : Type
 -- values as the version and the editions demand
 abbrev pub AreVersionValues : Bool → ℕ → Option (List ℤ) → Type 0
 AreVersionValues has_values editions None = has_values ≡ false
-AreVersionValues has_values editions (Some values) = (has_values ≡ true) × (length values ≡ editions) × IsSmall (length values) × AllByRecursion IsValue values
+AreVersionValues has_values editions (Some values) = (has_values ≡ true) × (length values ≡ editions) × IsSmall (length values) × AllByRecursion IsTickValue values
 
 -- values and logs behind events
 pub record IsReadBehindEvents (has_values : Bool) (editions : ℕ) (s : Sizes) (text : List ℕ) (told : Option (List ℤ)) (ls : List logs.Log) : Type 0 where
@@ -70,8 +70,8 @@ pub record IsReadBehindMoves (has_values : Bool) (s : Sizes) (text : List ℕ) (
   pub behind : IsReadBehindEvents has_values (suc (edition_count events)) s rest values ls
 
 -- the last line isn't there, or something stands behind it
-abbrev pub IsEnd : List ℕ → ℕ → Type 0
-IsEnd text left =
+abbrev pub IsEndOfFile : List ℕ → ℕ → Type 0
+IsEndOfFile text left =
     (((rest : List ℕ) → text ≢ codes "done\n" ++ rest) × (left ≡ length text))
     ⊎ ((rest : List ℕ) × (text ≡ codes "done\n" ++ rest) × (0 < length rest) × (left ≡ length rest))
 

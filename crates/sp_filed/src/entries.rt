@@ -1,13 +1,13 @@
 //! The lines of logs.
 
 ghost use Rattle.std.specs.Prelude.{◌≡◌, ◌≢◌, ℕ, ◌<◌, ◌++◌, ◌∷◌, [], List, codes, IsTrue, ◌↔◌, MatchOption};
-ghost use Rattle.sp_lines.specs.Lines.{IsSmall, spaced};
+ghost use Rattle.sp_lines.specs.Lines.{IsSmall, numbers_behind_spaces};
 ghost use Rattle.sp_theory.specs.Logs as logs;
 ghost use Rattle.sp_model.specs.Words as words;
 ghost use Rattle.sp_session.specs.Logs.{entry_of};
 ghost use Rattle.sp_planfile.specs.PlanText.{entry_line};
 ghost use Rattle.sp_planfile.specs.Form.{IsSessionName};
-ghost use Rattle.sp_filed.specs.Sizes.{IsEntryOf};
+ghost use Rattle.sp_filed.specs.Sizes.{IsEntryWithin};
 
 use crate::sizes::Sizes;
 use sp_lines::{behind, one_number, three_numbers};
@@ -43,7 +43,7 @@ fn is_word_byte(byte: u8) -> bool
 
 /// The entry of which this is the line.
 pub(crate) fn entry_at(line: &[u8], sizes: Sizes) -> Option<Entry>
-    ensures { MatchOption result ((x : logs.Entry) → IsEntryOf sizes x → line.now ≢ entry_line x) (λ x. IsEntryOf sizes (entry_of x) × (line.now ≡ entry_line (entry_of x))) }
+    ensures { MatchOption result ((x : logs.Entry) → IsEntryWithin sizes x → line.now ≢ entry_line x) (λ x. IsEntryWithin sizes (entry_of x) × (line.now ≡ entry_line (entry_of x))) }
 {
     if let Some(text) = behind(line, b"told") {
         return Some(Entry::Told(one_number(text)?));
@@ -72,7 +72,7 @@ pub(crate) fn entry_at(line: &[u8], sizes: Sizes) -> Option<Entry>
 
 /// The edition, the member and the action of an answer.
 fn answer_at(text: &[u8], sizes: Sizes) -> Option<(u64, u64, u64)>
-    ensures { MatchOption result ((e id a : ℕ) → IsSmall e → IsSmall id → IsSmall a → a < sizes.actions → text.now ≢ spaced (e ∷ id ∷ a ∷ [])) (λ r. IsSmall r.0 × IsSmall r.1 × IsSmall r.2 × (r.2 < sizes.actions) × (text.now ≡ spaced (r.0 ∷ r.1 ∷ r.2 ∷ []))) }
+    ensures { MatchOption result ((e id a : ℕ) → IsSmall e → IsSmall id → IsSmall a → a < sizes.actions → text.now ≢ numbers_behind_spaces (e ∷ id ∷ a ∷ [])) (λ r. IsSmall r.0 × IsSmall r.1 × IsSmall r.2 × (r.2 < sizes.actions) × (text.now ≡ numbers_behind_spaces (r.0 ∷ r.1 ∷ r.2 ∷ []))) }
 {
     let (edition, member, action) = three_numbers(text)?;
     if action < sizes.actions {
@@ -84,7 +84,7 @@ fn answer_at(text: &[u8], sizes: Sizes) -> Option<(u64, u64, u64)>
 
 /// The number of a joint observation.
 fn observation_at(text: &[u8], sizes: Sizes) -> Option<u64>
-    ensures { MatchOption result ((o : ℕ) → IsSmall o → o < sizes.joint → text.now ≢ spaced (o ∷ [])) (λ o. IsSmall o × (o < sizes.joint) × (text.now ≡ spaced (o ∷ []))) }
+    ensures { MatchOption result ((o : ℕ) → IsSmall o → o < sizes.joint → text.now ≢ numbers_behind_spaces (o ∷ [])) (λ o. IsSmall o × (o < sizes.joint) × (text.now ≡ numbers_behind_spaces (o ∷ []))) }
 {
     let observation = one_number(text)?;
     if observation < sizes.joint {

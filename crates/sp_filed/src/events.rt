@@ -3,7 +3,7 @@
 ghost use Rattle.std.specs.Prelude.{◌≡◌, ◌≢◌, ℕ, ◌++◌, ◌∷◌, List, codes, IfOk, MatchOption};
 ghost use Rattle.sp_theory.specs.Book as book;
 ghost use Rattle.sp_value.specs.Events.{event_of};
-ghost use Rattle.sp_lines.specs.Lines.{spaced, spaced_pairs};
+ghost use Rattle.sp_lines.specs.Lines.{numbers_behind_spaces, spaced_pairs};
 ghost use Rattle.sp_planfile.specs.RunText.{event_line};
 ghost use Rattle.sp_filed.specs.declared.sizes.Sizes.{Sizes};
 ghost use Rattle.sp_filed.specs.Sizes.{IsEventOf, IsPrune, BeginsThree};
@@ -35,7 +35,7 @@ pub(crate) fn event_at(alloc: Global, line: &[u8], sizes: Sizes) -> Result<Optio
 
 /// The settle of these words: a belief, an edition, an action and links.
 fn settle_at(alloc: Global, text: &[u8], sizes: Sizes) -> Result<Option<Event>, NoMemory>
-    ensures { IfOk result (λ found. MatchOption found ((k e a : ℕ) (links : List ℕ) → IsEventOf sizes (book.settle k e a links) → text.now ≢ spaced (k ∷ e ∷ a ∷ links)) (λ x. IsEventOf sizes (event_of x) × (codes "settle" ++ text.now ≡ event_line (event_of x)))) }
+    ensures { IfOk result (λ found. MatchOption found ((k e a : ℕ) (links : List ℕ) → IsEventOf sizes (book.settle k e a links) → text.now ≢ numbers_behind_spaces (k ∷ e ∷ a ∷ links)) (λ x. IsEventOf sizes (event_of x) × (codes "settle" ++ text.now ≡ event_line (event_of x)))) }
 {
     let Some((belief, base, action, rest)) = head_of(text) else {
         return Ok(None);

@@ -7,7 +7,7 @@ ghost use Rattle.sp_lines.specs.Lines.{lines_of, IsSmall, BeginsLineOf};
 ghost use Rattle.sp_planfile.specs.Form.{IsSessionName};
 ghost use Rattle.sp_planfile.specs.PlanText.{count_line, entry_line, logs_text, logs_section};
 ghost use Rattle.sp_filed.specs.declared.stops.Stop.TheVariants as stops;
-ghost use Rattle.sp_filed.specs.Sizes.{IsEntryOf};
+ghost use Rattle.sp_filed.specs.Sizes.{IsEntryWithin};
 ghost use Rattle.sp_filed.specs.Stops.{AreLogs, HasNoEntry, StopsBeforeLog, StopsInLogs, session_line};
 
 use crate::entries::{entry_at, name_at};
@@ -27,7 +27,7 @@ fn entries_first<'a>(
     text: &'a [u8],
     sizes: Sizes,
 ) -> Result<(Entries, &'a [u8]), NoMemory>
-    ensures { IfOk result (λ r. (text.now ≡ lines_of entry_line (entries_of r.0) ++ r.1.now) × AllByRecursion (IsEntryOf sizes) (entries_of r.0) × ¬ (BeginsLineOf entry_line (IsEntryOf sizes) r.1.now)) }
+    ensures { IfOk result (λ r. (text.now ≡ lines_of entry_line (entries_of r.0) ++ r.1.now) × AllByRecursion (IsEntryWithin sizes) (entries_of r.0) × ¬ (BeginsLineOf entry_line (IsEntryWithin sizes) r.1.now)) }
 {
     let mut entries = Entries::new(alloc);
     let mut rest = text;
@@ -109,7 +109,7 @@ fn log_of<'a>(
     text: &'a [u8],
     sizes: Sizes,
 ) -> Result<(SessionLog, &'a [u8]), NoMemory>
-    ensures { IfOk result (λ r. (r.0.name ≡ name.now) × (text.now ≡ lines_of entry_line (entries_of r.0.entries) ++ r.1.now) × AllByRecursion (IsEntryOf sizes) (entries_of r.0.entries) × ¬ (BeginsLineOf entry_line (IsEntryOf sizes) r.1.now)) }
+    ensures { IfOk result (λ r. (r.0.name ≡ name.now) × (text.now ≡ lines_of entry_line (entries_of r.0.entries) ++ r.1.now) × AllByRecursion (IsEntryWithin sizes) (entries_of r.0.entries) × ¬ (BeginsLineOf entry_line (IsEntryWithin sizes) r.1.now)) }
 {
     let name = Name::new(alloc, name)?;
     let (entries, rest) = entries_first(alloc, text, sizes)?;

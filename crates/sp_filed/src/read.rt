@@ -5,7 +5,7 @@ ghost use Rattle.std.specs.Arc.{arc_value};
 ghost use Rattle.sp_filed.specs.declared.error.PlanKind.{PlanKind};
 ghost use Rattle.sp_filed.specs.declared.error.PlanError.TheVariants as errors;
 ghost use Rattle.sp_filed.specs.declared.read.Unread.TheVariants as unread;
-ghost use Rattle.sp_filed.specs.Files.{IsPlanFile, IsFault, IsFirstVersionFault, IsFaultBefore, IsReason, StopsInRest};
+ghost use Rattle.sp_filed.specs.Files.{IsPlanFile, IsFault, IsFirstVersionFault, IsFaultBefore, IsSampleReason, StopsInRest};
 ghost use Rattle.sp_filed.specs.Tails.{IsReadBehindModel};
 
 use crate::error::{PlanError, PlanKind};
@@ -102,7 +102,7 @@ fn read_rest(alloc: Global, model: Model, text: &[u8], has_values: bool) -> Resu
 
 /// The reason behind the model, as a fault.
 fn unread_for(stop: Unsampled) -> Unread
-    ensures { (left : ℕ) (kind : PlanKind) → result ≡ unread.At left kind → IsReason stop left kind }
+    ensures { (left : ℕ) (kind : PlanKind) → result ≡ unread.At left kind → IsSampleReason stop left kind }
 {
     match stop {
         Unsampled::Shape(left) => Unread::At(left, PlanKind::Shape),

@@ -6,7 +6,7 @@ ghost use Rattle.sp_value.specs.Events.{event_of, events_of};
 ghost use Rattle.sp_lines.specs.Lines.{lines_of, IsSmall, EndsEarly, BeginsLine, BeginsLineOf};
 ghost use Rattle.sp_planfile.specs.RunText.{event_line};
 ghost use Rattle.sp_planfile.specs.PlanText.{count_line, value_line, events_section};
-ghost use Rattle.sp_planfile.specs.Form.{IsValue, edition_count};
+ghost use Rattle.sp_planfile.specs.Form.{IsTickValue, edition_count};
 ghost use Rattle.sp_filed.specs.declared.stops.Stop.{Stop};
 ghost use Rattle.sp_filed.specs.declared.stops.Stop.TheVariants as stops;
 ghost use Rattle.sp_filed.specs.Sizes.{IsEventOf, is_plain};
@@ -87,7 +87,7 @@ pub(crate) fn values_first<'a>(
     text: &'a [u8],
     editions: u64,
 ) -> Result<(Values, &'a [u8]), Stop>
-    ensures ok { IfOk result (λ r. (text.now ≡ count_line (codes "values") editions ++ 10 ∷ (lines_of value_line r.0 ++ r.1.now)) × (length r.0 ≡ editions) × AllByRecursion IsValue r.0) }
+    ensures ok { IfOk result (λ r. (text.now ≡ count_line (codes "values") editions ++ 10 ∷ (lines_of value_line r.0 ++ r.1.now)) × (length r.0 ≡ editions) × AllByRecursion IsTickValue r.0) }
     ensures err { (left : ℕ) → result ≡ Err (stops.Shape left) → StopsInValues editions text.now left }
 {
     let stop = Stop::Shape(text.len() as u64);
@@ -106,8 +106,8 @@ pub(crate) fn values_first<'a>(
 
 /// So many values, and what stands behind them.
 fn value_lines<'a>(alloc: Global, text: &'a [u8], count: u64) -> Result<(Values, &'a [u8]), Stop>
-    ensures ok { IfOk result (λ r. (text.now ≡ lines_of value_line r.0 ++ r.1.now) × (length r.0 ≡ count) × AllByRecursion IsValue r.0) }
-    ensures err { (left : ℕ) → result ≡ Err (stops.Shape left) → EndsEarly value_line IsValue count text.now left }
+    ensures ok { IfOk result (λ r. (text.now ≡ lines_of value_line r.0 ++ r.1.now) × (length r.0 ≡ count) × AllByRecursion IsTickValue r.0) }
+    ensures err { (left : ℕ) → result ≡ Err (stops.Shape left) → EndsEarly value_line IsTickValue count text.now left }
 {
     let mut values = Values::new(alloc);
     let mut rest = text;

@@ -6,7 +6,7 @@ ghost use Rattle.sp_value.specs.Events.{events_of};
 ghost use Rattle.sp_session.specs.Logs.{logs_of};
 ghost use Rattle.sp_filed.specs.declared.stops.Stop.TheVariants as stops;
 ghost use Rattle.sp_filed.specs.Stops.{HasNoEntry};
-ghost use Rattle.sp_filed.specs.Tails.{StopsAtEnd, StopsBehindValues, StopsBehindEvents, StopsBehindMoves, AreReadLogs, IsReadBehindEvents, IsReadBehindMoves, IsEnd};
+ghost use Rattle.sp_filed.specs.Tails.{StopsAtEnd, StopsBehindValues, StopsBehindEvents, StopsBehindMoves, AreReadLogs, IsReadBehindEvents, IsReadBehindMoves, IsEndOfFile};
 
 use crate::logs::logs_first;
 use crate::sections::{editions_of, events_first, values_first};
@@ -20,7 +20,7 @@ use std::alloc::Global;
 /// Whether the last line stands first, and nothing behind it.
 fn end_of(text: &[u8]) -> Result<(), Stop>
     ensures ok { IfOk result (λ r. text.now ≡ codes "done\n") }
-    ensures err { (left : ℕ) → result ≡ Err (stops.Shape left) → IsEnd text.now left }
+    ensures err { (left : ℕ) → result ≡ Err (stops.Shape left) → IsEndOfFile text.now left }
 {
     let Some(rest) = behind(text, b"done\n") else {
         return Err(Stop::Shape(text.len() as u64));

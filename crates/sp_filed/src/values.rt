@@ -2,7 +2,7 @@
 
 ghost use Rattle.std.specs.Prelude.{◌≡◌, ◌≢◌, ℤ, IfOk, MatchOption};
 ghost use Rattle.sp_planfile.specs.PlanText.{value_line};
-ghost use Rattle.sp_planfile.specs.Form.{IsValue};
+ghost use Rattle.sp_planfile.specs.Form.{IsTickValue};
 
 use sp_dd::NoMemory;
 use sp_lex::ticks;
@@ -15,7 +15,7 @@ const MOST: u128 = 1_000_000_000_000_000_000;
 
 /// The value of which this is the line, in ticks of 10^-9.
 pub(crate) fn value_at(alloc: Global, line: &[u8]) -> Result<Option<i128>, NoMemory>
-    ensures { IfOk result (λ found. MatchOption found ((z : ℤ) → IsValue z → line.now ≢ value_line z) (λ z. IsValue z × (line.now ≡ value_line z))) }
+    ensures { IfOk result (λ found. MatchOption found ((z : ℤ) → IsTickValue z → line.now ≢ value_line z) (λ z. IsTickValue z × (line.now ≡ value_line z))) }
 {
     let Some(word) = behind(line, b"value ") else {
         return Ok(None);

@@ -25,9 +25,9 @@ use Rattle.sp_declarations.specs.Steps.{unless_refused, in_turn}
 use Rattle.sp_checks.specs.declared.roles.Role.TheVariants as role
 use Rattle.sp_checks.specs.declared.items.Listed.{Listed}
 use Rattle.sp_checks.specs.declared.state.State.{State}
-use Rattle.sp_checks.specs.Roles.{allowed}
+use Rattle.sp_checks.specs.Roles.{allowed_slots}
 use Rattle.sp_checks.specs.Accepted.{table_refusal}
-use Rattle.sp_checks.specs.Actions.{item, observed, nothing_listed, sights_of, sight_step, name_refusal_by}
+use Rattle.sp_checks.specs.Actions.{item, observe_entry, nothing_listed, sights_of, sight_step, name_refusal_by}
 use Rattle.sp_written.specs.Meanings.{WritesTree, constant_dd}
 use Rattle.sp_written.proofs.Tests.{sound_table}
 use Rattle.sp_written.proofs.Lines.{Leads, in_turn_alone}
@@ -72,7 +72,7 @@ module _ (n : ℕ) (few : n ≤ 24) (dds : List (List ℕ × Dd)) where
 
   -- ---- items
   pub lists_variable : (l : Listed) (k depth : ℕ) (us : List Spelled) (d : Dd) → k < n → l.moves ≡ replicate (length (decls 1 n)) None → ((at : ℕ) → table_refusal (length (decls 1 n)) l.action (table.Move k) at d.func ≡ None)
-      → WritesTree (env_of n dds) (allowed (scope_of n) (role.Table (table.Move k))) d depth us → Lists (env_of n dds) l (record l { moves = slice_set l.moves k (Some d.func) }) depth (spaced_word (variable_name (suc k)) ∷ us)
+      → WritesTree (env_of n dds) (allowed_slots (scope_of n) (role.Table (table.Move k))) d depth us → Lists (env_of n dds) l (record l { moves = slice_set l.moves k (Some d.func) }) depth (spaced_word (variable_name (suc k)) ∷ us)
   lists_variable l k depth us d h none sound part =
       lists_one (env_of n dds) l (record l { moves = slice_set l.moves k (Some d.func) }) depth (spaced_word (variable_name (suc k)) ∷ us)
       (writes_variable (env_of n dds) l (variable_name (suc k)) (variable_word (suc k) (omega arith)) d us depth k (variable_place n few dds k h)
@@ -82,21 +82,21 @@ module _ (n : ℕ) (few : n ≤ 24) (dds : List (List ℕ × Dd)) where
   with_sight l f = record l { has_observe = true; sights = slice_set l.sights 0 (Some f) }
 
   pub lists_observe : (l : Listed) (depth : ℕ) (us : List Spelled) (d : Dd) → l.has_observe ≡ false → l.sights ≡ None ∷ [] → ((at : ℕ) → table_refusal (length (decls 1 n)) l.action (table.Sight 0) at d.func ≡ None)
-      → WritesTree (env_of n dds) (allowed (scope_of n) (role.Table (table.Sight 0))) d depth us → Lists (env_of n dds) l (with_sight l d.func) depth (observe_signs us)
+      → WritesTree (env_of n dds) (allowed_slots (scope_of n) (role.Table (table.Sight 0))) d depth us → Lists (env_of n dds) l (with_sight l d.func) depth (observe_signs us)
   lists_observe l depth us d new none sound part =
       lists_one (env_of n dds) l (with_sight l d.func) depth (observe_signs us)
       (writes_observe (env_of n dds) l (with_sight l d.func) (spaced_word (codes "hint") ∷ us) space line depth tt tt new
-      (written_alone IsObserved (λ source x. observed (env_of n dds) source (record l { has_observe = true }) x ≡ Ok (with_sight l d.func))
-      (λ source xs. in_turn (observed (env_of n dds) source) (record l { has_observe = true }) xs ≡ Ok (with_sight l d.func)) (spaced_word (codes "hint") ∷ us) depth
+      (written_alone IsObserved (λ source x. observe_entry (env_of n dds) source (record l { has_observe = true }) x ≡ Ok (with_sight l d.func))
+      (λ source xs. in_turn (observe_entry (env_of n dds) source) (record l { has_observe = true }) xs ≡ Ok (with_sight l d.func)) (spaced_word (codes "hint") ∷ us) depth
       (writes_observed (env_of n dds) (record l { has_observe = true }) (codes "hint") hint_word d us depth 0 (hint_place n few dds) (ap (λ ts. is_some (slice_index_or ts 0 None)) none) sound part)
-      (λ source x h. in_turn_alone (observed (env_of n dds) source) (record l { has_observe = true }) (with_sight l d.func) x h)))
+      (λ source x h. in_turn_alone (observe_entry (env_of n dds) source) (record l { has_observe = true }) (with_sight l d.func) x h)))
 
   abbrev pub with_cost : Listed → ℤ → Listed
   with_cost l z = record l { cost = Some (constant_dd (env_of n dds) z).func }
 
   pub lists_cost : (l : Listed) (w : List ℕ) (z : ℤ) → l.cost ≡ None → SpellsTicks w z → Lists (env_of n dds) l (with_cost l z) 1 (cost_signs w)
   lists_cost l w z new h =
-      lists_one (env_of n dds) l (with_cost l z) 1 (cost_signs w) (writes_cost (env_of n dds) l (constant_dd (env_of n dds) z) _ 1 new (writes_ticks n few dds (allowed (scope_of n) role.Reward) w z line h))
+      lists_one (env_of n dds) l (with_cost l z) 1 (cost_signs w) (writes_cost (env_of n dds) l (constant_dd (env_of n dds) z) _ 1 new (writes_ticks n few dds (allowed_slots (scope_of n) role.Reward) w z line h))
 
   -- ---- the action
   pub leads_listed : (s : State) (w : List ℕ) (named : IsNameWord w) (l : Listed) (f : Func) (us : List Spelled) (depth : ℕ) → s.env ≡ env_of n dds → list_any (bytes_eq w) s.names ≡ false → (length s.actions == 256) ≡ false → l.sights ≡ Some f ∷ []

@@ -8,7 +8,7 @@ use Rattle.std.proofs.lemmas.Fmt.{decimal_injective}
 use Rattle.std.proofs.lemmas.List.{length-map}
 use Rattle.sp_syntax.specs.declared.class.WordClass.TheVariants as the_word
 use Rattle.sp_syntax.specs.Grammar.{IsSection, AreDeclarations, AreAll}
-use Rattle.sp_spelled.specs.Signs.{space, Spelled, printed}
+use Rattle.sp_spelled.specs.Signs.{space, Spelled, text_of_signs}
 use Rattle.sp_spelled.specs.Shapes.{leaf}
 use Rattle.sp_spelled.specs.Written.{IsNameWord}
 use Rattle.sp_spelled.proofs.Written.{deeper}
@@ -22,7 +22,7 @@ use Rattle.sp_checks.specs.declared.roles.Role.TheVariants as role
 use Rattle.sp_checks.specs.declared.items.Listed.{Listed}
 use Rattle.sp_checks.specs.declared.state.Draft.{Draft}
 use Rattle.sp_checks.specs.declared.state.State.{State}
-use Rattle.sp_checks.specs.Roles.{allowed}
+use Rattle.sp_checks.specs.Roles.{allowed_slots}
 use Rattle.sp_checks.specs.Sections.{section, begun}
 use Rattle.sp_checks.specs.Finish.{finish, or_zero}
 use Rattle.sp_reader.specs.Sources.{Reads}
@@ -198,7 +198,7 @@ module _ (n m : ℕ) (same : n ≡ suc m) (some : 8 ≤ n) (few : n ≤ 24) wher
   with_blind = with_dds opened (blind_dds n few)
 
   blind_read : Leads opened with_blind 1 blind_signs
-  blind_read = leads_dd opened [] (codes "blind") (blind_dd n few) (leaf (codes "0.5") space) 1 blind_word refl (writes_ticks n few [] (allowed (scope_of n) role.Dd) (codes "0.5") (pos 500000000) space spells_half)
+  blind_read = leads_dd opened [] (codes "blind") (blind_dd n few) (leaf (codes "0.5") space) 1 blind_word refl (writes_ticks n few [] (allowed_slots (scope_of n) role.Dd) (codes "0.5") (pos 500000000) space spells_half)
 
   whole : Completes begun_state (sections_signs (variable_name 1) m)
   whole = then_more begun_state opened (opening_signs (variable_name 1) m) (actions_signs (variable_name 1) ++ (rewards_signs (variable_name 1) m ++ discount_signs))
@@ -214,7 +214,7 @@ module _ (n m : ℕ) (same : n ≡ suc m) (some : 8 ≤ n) (few : n ≤ 24) wher
       (deeper (AreDeclarations the_word.Observations) _ observations_signs 2 5 (omega arith) (observations_written n (omega arith) few))
       (λ source x y sections h k. declared_read n (omega arith) few source x y sections h k) whole.leads whole.done
 
-  text_reads : Reads (printed (variables_signs n ++ (observations_signs ++ sections_signs (variable_name 1) m))) whole.parts
+  text_reads : Reads (text_of_signs (variables_signs n ++ (observations_signs ++ sections_signs (variable_name 1) m))) whole.parts
   text_reads = written_models whole.parts 5 (variables_signs n ++ (observations_signs ++ sections_signs (variable_name 1) m)) (omega arith) text_written
 
 pub generated_models : GeneratedModelsAreRead

@@ -14,7 +14,7 @@ use Rattle.sp_trees.proofs.SlotLemmas.{has_one, has_union, has_none}
 use Rattle.sp_trees.proofs.ConditionLemmas.{range_all}
 use Rattle.sp_checks.specs.declared.roles.Role.TheVariants as role
 use Rattle.sp_checks.specs.declared.state.State.{State}
-use Rattle.sp_checks.specs.Roles.{allowed}
+use Rattle.sp_checks.specs.Roles.{allowed_slots}
 use Rattle.sp_checks.specs.Initial.{has_every, value_refusal}
 use Rattle.sp_written.specs.Acceptance.{mentions_of}
 use Rattle.sp_written.specs.Meanings.{constant_dd, AreWritten}
@@ -94,11 +94,11 @@ module _ (n : ℕ) (few : n ≤ 24) (dds : List (List ℕ × Dd)) where
     off_factors (suc k) m (union used (factor k (pos 1000000000) (pos 0)).mentions) (omega arith) (free_next used k (pos 1000000000) (pos 0) free),
   )
 
-  off_written : (k m : ℕ) → k + m ≤ n → AreWritten (env_of n dds) (allowed (scope_of n) role.Init) 3 (row_signs off_signs (suc k) m) (off_dds k m)
+  off_written : (k m : ℕ) → k + m ≤ n → AreWritten (env_of n dds) (allowed_slots (scope_of n) role.Init) 3 (row_signs off_signs (suc k) m) (off_dds k m)
   off_written k zero l = tt
   off_written k (suc m) l = (
-    writes_unprimed n few dds (allowed (scope_of n) role.Init) k 1 (leaf (codes "1.0") tight) (leaf (codes "0.0") tight) _ _ (gap_behind m) (omega arith)
-        (writes_ticks n few dds (allowed (scope_of n) role.Init) (codes "1.0") (pos 1000000000) tight spells_one) (writes_ticks n few dds (allowed (scope_of n) role.Init) (codes "0.0") (pos 0) tight spells_zero) (init_allows n k (omega arith)),
+    writes_unprimed n few dds (allowed_slots (scope_of n) role.Init) k 1 (leaf (codes "1.0") tight) (leaf (codes "0.0") tight) _ _ (gap_behind m) (omega arith)
+        (writes_ticks n few dds (allowed_slots (scope_of n) role.Init) (codes "1.0") (pos 1000000000) tight spells_one) (writes_ticks n few dds (allowed_slots (scope_of n) role.Init) (codes "0.0") (pos 0) tight spells_zero) (init_allows n k (omega arith)),
     off_written (suc k) m (omega arith),
   )
 
@@ -115,10 +115,10 @@ module _ (n : ℕ) (few : n ≤ 24) (dds : List (List ℕ × Dd)) where
       (λ e. mentioned 1 m i (union none (factor 0 (pos 500000000) (pos 500000000)).mentions) (omega arith) (let c = decls_count 1 n in omega arith)))
 
   module _ (s : State) (env : s.env ≡ env_of n dds) (new : s.init ≡ None) (m : ℕ) (same : n ≡ suc m) where
-    written : AreWritten (env_of n dds) (allowed (scope_of n) role.Init) 3 (group (variable_name 1) (two_leaves (codes "0.5") (codes "0.5")) space ∷ row_signs off_signs 2 m) (opening_dds m)
+    written : AreWritten (env_of n dds) (allowed_slots (scope_of n) role.Init) 3 (group (variable_name 1) (two_leaves (codes "0.5") (codes "0.5")) space ∷ row_signs off_signs 2 m) (opening_dds m)
     written = (
-      writes_unprimed n few dds (allowed (scope_of n) role.Init) 0 1 (leaf (codes "0.5") tight) (leaf (codes "0.5") tight) _ _ space (omega arith)
-          (writes_ticks n few dds (allowed (scope_of n) role.Init) (codes "0.5") (pos 500000000) tight spells_half) (writes_ticks n few dds (allowed (scope_of n) role.Init) (codes "0.5") (pos 500000000) tight spells_half) (init_allows n 0 (omega arith)),
+      writes_unprimed n few dds (allowed_slots (scope_of n) role.Init) 0 1 (leaf (codes "0.5") tight) (leaf (codes "0.5") tight) _ _ space (omega arith)
+          (writes_ticks n few dds (allowed_slots (scope_of n) role.Init) (codes "0.5") (pos 500000000) tight spells_half) (writes_ticks n few dds (allowed_slots (scope_of n) role.Init) (codes "0.5") (pos 500000000) tight spells_half) (init_allows n 0 (omega arith)),
       off_written 1 m (omega arith),
     )
 
@@ -130,6 +130,6 @@ module _ (n : ℕ) (few : n ≤ 24) (dds : List (List ℕ × Dd)) where
 
     pub leads_opening : Leads s (record s { init = Some (opening_factors m) }) 4 (opening_signs (variable_name 1) m)
     leads_opening = leads_init s 3 (group (variable_name 1) (two_leaves (codes "0.5") (codes "0.5")) space ∷ row_signs off_signs 2 m) (factor 0 (pos 500000000) (pos 500000000)) (off_dds 1 m) ((0 ∷ []) ∷ own_lists 1 m) new
-        (subst (λ (e : Env). AreWritten e (allowed e.scope role.Init) 3 (group (variable_name 1) (two_leaves (codes "0.5") (codes "0.5")) space ∷ row_signs off_signs 2 m) (opening_dds m)) (sym env) written)
+        (subst (λ (e : Env). AreWritten e (allowed_slots e.scope role.Init) 3 (group (variable_name 1) (two_leaves (codes "0.5") (codes "0.5")) space ∷ row_signs off_signs 2 m) (opening_dds m)) (sym env) written)
         (subst (λ (e : Env). AreFactorsOk e.scope.variables none (opening_dds m) ((0 ∷ []) ∷ own_lists 1 m)) (sym env) sound_factors)
         (subst (λ (e : Env). has_every e.scope.variables (mentions_of none (opening_dds m)) ≡ true) (sym env) (all_mentioned m same))

@@ -4,7 +4,7 @@ use Rattle.std.specs.Prelude.{ℤ, pos, negsuc, neg_ℤ, ◌+ℤ◌, ◌*ℤ◌,
 use Rattle.std.proofs.lemmas.Int.{ints}
 use Rattle.sp_dd.specs.Points.{IsPoint}
 use Rattle.sp_dd.specs.Func.{Shape, Func, IsScope, value_of}
-use Rattle.sp_dd.specs.Operations.{plus, scaled}
+use Rattle.sp_dd.specs.Operations.{plus, scalar_multiple}
 use Rattle.sp_dd.proofs.FuncLemmas.{scope_some, value_of-function_of}
 use Rattle.sp_spelled.specs.Signs.{tight, space, line}
 use Rattle.sp_spelled.specs.Shapes.{leaf, group, sum_group}
@@ -14,10 +14,10 @@ use Rattle.sp_trees.specs.declared.env.Dd.{Dd}
 use Rattle.sp_trees.specs.declared.env.Env.{Env}
 use Rattle.sp_trees.specs.Slots.{none}
 use Rattle.sp_trees.specs.Conditions.{is_within}
-use Rattle.sp_trees.specs.Lists.{most}
+use Rattle.sp_trees.specs.Lists.{greatest_partial}
 use Rattle.sp_checks.specs.declared.roles.Role.TheVariants as role
 use Rattle.sp_checks.specs.declared.state.State.{State}
-use Rattle.sp_checks.specs.Roles.{allowed}
+use Rattle.sp_checks.specs.Roles.{allowed_slots}
 use Rattle.sp_written.specs.Acceptance.{mentions_of}
 use Rattle.sp_written.specs.Meanings.{WritesTree, AreWritten, constant_dd, list_signs}
 use Rattle.sp_written.proofs.Tests.{within_true, small_true}
@@ -68,8 +68,8 @@ module _ (n : ℕ) (few : n ≤ 24) (dds : List (List ℕ × Dd)) where
     bounds = λ x p. subst (λ z. (pos 0 ≤ℤ z) × (z ≤ℤ pos (a + b))) (sym (plus_value f g x h.shape p)) (sum_bounds a b (value_of f x) (value_of g x) (h.bounds x p) (k.bounds x p));
   }
 
-  small : (f : Func) (b : ℕ) → b ≤ 1000000000000000000 → IsPay f b → is_within most f ≡ true
-  small f b l h = small_true most f (subst IsScope (sym h.shape) (is_scope n few))
+  small : (f : Func) (b : ℕ) → b ≤ 1000000000000000000 → IsPay f b → is_within greatest_partial f ≡ true
+  small f b l h = small_true greatest_partial f (subst IsScope (sym h.shape) (is_scope n few))
       (λ x p. (let q = h.bounds x (subst (λ (s : Shape). IsPoint s.sizes x) h.shape p) in let low = q.0 in let high = q.1 in ((omega (arith, ints)), (omega (arith, ints)))))
 
   small_sums : (f : Func) (b k m : ℕ) → k + m ≤ n → b + m * 1000000000 ≤ 1000000000000000000 → IsPay f b → AreSmallSums f (pay_dds k m)
@@ -102,15 +102,15 @@ module _ (n : ℕ) (few : n ≤ 24) (dds : List (List ℕ × Dd)) where
       within_true (neg_ℤ (pos most_reward)) (pos most_reward) (less (reward_func m) (constant_dd (env_of n dds) (pos c)).func) (subst IsScope (sym is.shape) (is_scope n few))
       (λ x q. (let p : IsPoint sizes x = subst (λ (s : Shape). IsPoint s.sizes x) is.shape q in
       subst (λ z. (neg_ℤ (pos most_reward) ≤ℤ z) × (z ≤ℤ pos most_reward))
-      (sym (plus_value (reward_func m) (scaled (constant_dd (env_of n dds) (pos c)).func (negsuc 0)) x is.shape p
+      (sym (plus_value (reward_func m) (scalar_multiple (constant_dd (env_of n dds) (pos c)).func (negsuc 0)) x is.shape p
       ∙ ap (λ v. value_of (reward_func m) x +ℤ v) (value_of-function_of (scope_of n) (λ y. negsuc 0 *ℤ value_of (constant_dd (env_of n dds) (pos c)).func y) x (scope_some (scope_of n) (is_scope n few)) p)))
       (cost_bounds c (5000000000 + m * 1000000000) (value_of (reward_func m) x) (value_of (constant_dd (env_of n dds) (pos c)).func x) l (omega arith) (is.bounds x p) (constant_value n few dds (pos c) x p))))
 
-  rewards_written : (k m : ℕ) → k + m ≤ n → AreWritten (env_of n dds) (allowed (scope_of n) role.Reward) 3 (row_signs reward_signs (suc k) m) (pay_dds k m)
+  rewards_written : (k m : ℕ) → k + m ≤ n → AreWritten (env_of n dds) (allowed_slots (scope_of n) role.Reward) 3 (row_signs reward_signs (suc k) m) (pay_dds k m)
   rewards_written k zero l = tt
   rewards_written k (suc m) l = (
-    writes_unprimed n few dds (allowed (scope_of n) role.Reward) k 1 (leaf (codes "0.0") tight) (leaf (codes "1.0") tight) _ _ (gap_behind m) (omega arith)
-        (writes_ticks n few dds (allowed (scope_of n) role.Reward) (codes "0.0") (pos 0) tight spells_zero) (writes_ticks n few dds (allowed (scope_of n) role.Reward) (codes "1.0") (pos 1000000000) tight spells_one) (reward_allows n k (omega arith)),
+    writes_unprimed n few dds (allowed_slots (scope_of n) role.Reward) k 1 (leaf (codes "0.0") tight) (leaf (codes "1.0") tight) _ _ (gap_behind m) (omega arith)
+        (writes_ticks n few dds (allowed_slots (scope_of n) role.Reward) (codes "0.0") (pos 0) tight spells_zero) (writes_ticks n few dds (allowed_slots (scope_of n) role.Reward) (codes "1.0") (pos 1000000000) tight spells_one) (reward_allows n k (omega arith)),
     rewards_written (suc k) m (omega arith),
   )
 
@@ -121,12 +121,12 @@ module _ (n : ℕ) (few : n ≤ 24) (dds : List (List ℕ × Dd)) where
     pub leads_rewards : Leads s (record s { reward = Some (reward_func m) }) 4 (rewards_signs (variable_name 1) m)
     leads_rewards = leads_reward s reward_dd _ 4 new
         (subst (λ (e : Env). Writes e) (sym env)
-        (writes_total (env_of n dds) (allowed (scope_of n) role.Reward) 3 (group (variable_name 1) (two_leaves (codes "0.0") (codes "5.0")) space ∷ row_signs reward_signs 2 m) (pay 0 5000000000) (pay_dds 1 m) line (
-          writes_unprimed n few dds (allowed (scope_of n) role.Reward) 0 1 (leaf (codes "0.0") tight) (leaf (codes "5.0") tight) _ _ space (omega arith)
-              (writes_ticks n few dds (allowed (scope_of n) role.Reward) (codes "0.0") (pos 0) tight spells_zero) (writes_ticks n few dds (allowed (scope_of n) role.Reward) (codes "5.0") (pos 5000000000) tight spells_five) (reward_allows n 0 (omega arith)),
+        (writes_total (env_of n dds) (allowed_slots (scope_of n) role.Reward) 3 (group (variable_name 1) (two_leaves (codes "0.0") (codes "5.0")) space ∷ row_signs reward_signs 2 m) (pay 0 5000000000) (pay_dds 1 m) line (
+          writes_unprimed n few dds (allowed_slots (scope_of n) role.Reward) 0 1 (leaf (codes "0.0") tight) (leaf (codes "5.0") tight) _ _ space (omega arith)
+              (writes_ticks n few dds (allowed_slots (scope_of n) role.Reward) (codes "0.0") (pos 0) tight spells_zero) (writes_ticks n few dds (allowed_slots (scope_of n) role.Reward) (codes "5.0") (pos 5000000000) tight spells_five) (reward_allows n 0 (omega arith)),
           rewards_written 1 m (omega arith),
         )
         (small_sums (pay 0 5000000000).func 5000000000 1 m (omega arith) (omega arith) (pay_is 0 5000000000 5000000000 (omega arith) (omega arith)))))
       where
         Writes : Env → Type 0
-        Writes e = WritesTree e (allowed e.scope role.Reward) reward_dd 4 (sum_group (list_signs (group (variable_name 1) (two_leaves (codes "0.0") (codes "5.0")) space ∷ row_signs reward_signs 2 m)) line)
+        Writes e = WritesTree e (allowed_slots e.scope role.Reward) reward_dd 4 (sum_group (list_signs (group (variable_name 1) (two_leaves (codes "0.0") (codes "5.0")) space ∷ row_signs reward_signs 2 m)) line)

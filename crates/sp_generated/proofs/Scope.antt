@@ -8,7 +8,7 @@ use Rattle.std.proofs.lemmas.Bool.Decides.{Decides-eqb}
 use Rattle.sp_dd.specs.Points.{AllSizes}
 use Rattle.sp_dd.specs.Func.{Shape, IsScope}
 use Rattle.sp_model.specs.declared.parts.Decl.{Decl}
-use Rattle.sp_model.specs.Problem.{doubled, sizes_of}
+use Rattle.sp_model.specs.Problem.{twice_each, sizes_of}
 use Rattle.sp_trees.specs.declared.env.Dd.{Dd}
 use Rattle.sp_trees.specs.declared.env.Env.{Env}
 use Rattle.sp_trees.specs.declared.nodes.Place.TheVariants.{Variable, Sight}
@@ -72,18 +72,18 @@ module _ (n : ℕ) (few : n ≤ 24) (dds : List (List ℕ × Dd)) where
   variable_values k l = ap (λ (d : Decl). d.values) (decls_at 1 n k _ l)
 
 -- ---- sizes
-sizes_count : (i n : ℕ) → length (doubled (sizes_of (decls i n)) ++ 2 ∷ []) ≡ 2 * n + 1
+sizes_count : (i n : ℕ) → length (twice_each (sizes_of (decls i n)) ++ 2 ∷ []) ≡ 2 * n + 1
 sizes_count i zero = refl
 sizes_count i (suc n) = let rest = sizes_count (suc i) n in omega arith
 
-sizes_at : (i n k : ℕ) → k < 2 * n + 1 → get_or (doubled (sizes_of (decls i n)) ++ 2 ∷ []) k 0 ≡ 2
+sizes_at : (i n k : ℕ) → k < 2 * n + 1 → get_or (twice_each (sizes_of (decls i n)) ++ 2 ∷ []) k 0 ≡ 2
 sizes_at i zero zero l = refl
 sizes_at i zero (suc k) l = absurd (omega arith)
 sizes_at i (suc n) zero l = refl
 sizes_at i (suc n) (suc zero) l = refl
 sizes_at i (suc n) (suc (suc k)) l = sizes_at (suc i) n k (omega arith)
 
-sizes_each : (i n : ℕ) → AllSizes (doubled (sizes_of (decls i n)) ++ 2 ∷ [])
+sizes_each : (i n : ℕ) → AllSizes (twice_each (sizes_of (decls i n)) ++ 2 ∷ [])
 sizes_each i zero = (omega arith, omega arith, tt)
 sizes_each i (suc n) = (omega arith, omega arith, (omega arith, omega arith, sizes_each (suc i) n))
 

@@ -18,7 +18,7 @@ use Rattle.sp_trees.proofs.MentionLemmas.{none_among}
 use Rattle.sp_checks.specs.declared.roles.Role.TheVariants as role
 use Rattle.sp_checks.specs.declared.items.Listed.{Listed}
 use Rattle.sp_checks.specs.declared.state.State.{State}
-use Rattle.sp_checks.specs.Roles.{allowed}
+use Rattle.sp_checks.specs.Roles.{allowed_slots}
 use Rattle.sp_checks.specs.Accepted.{table_refusal}
 use Rattle.sp_checks.specs.Actions.{item, nothing_listed}
 use Rattle.sp_declarations.specs.Steps.{in_turn}
@@ -49,8 +49,8 @@ module _ (n : ℕ) (few : n ≤ 24) where
   abbrev nothing : ℕ → Listed
   nothing action = nothing_listed env action
 
-  two_ticks : (allowed : Slots) (a b : List ℕ) (y z : ℕ) → SpellsTicks a (pos y) → SpellsTicks b (pos z) → WritesTree env allowed (constant_dd env (pos y)) 1 (leaf a tight) × WritesTree env allowed (constant_dd env (pos z)) 1 (leaf b tight)
-  two_ticks allowed a b y z h k = (writes_ticks n few blind_dds allowed a (pos y) tight h, writes_ticks n few blind_dds allowed b (pos z) tight k)
+  two_ticks : (allowed_slots : Slots) (a b : List ℕ) (y z : ℕ) → SpellsTicks a (pos y) → SpellsTicks b (pos z) → WritesTree env allowed_slots (constant_dd env (pos y)) 1 (leaf a tight) × WritesTree env allowed_slots (constant_dd env (pos z)) 1 (leaf b tight)
+  two_ticks allowed_slots a b y z h k = (writes_ticks n few blind_dds allowed_slots a (pos y) tight h, writes_ticks n few blind_dds allowed_slots b (pos z) tight k)
 
   -- ---- observing nothing, at a cost
   abbrev pub blindly : Listed → ℤ → Listed
@@ -61,7 +61,7 @@ module _ (n : ℕ) (few : n ≤ 24) where
       lists_both env l (with_sight n few blind_dds l blind_dd.func) (blindly l z) 1 (observe_signs (leaf (codes "blind") space)) (cost_signs w)
       (lists_observe n few blind_dds l 1 (leaf (codes "blind") space) blind_dd new none
       (sound_sight n few blind_dds l.action blind_dd refl (constant_holds n few blind_dds IsShare (pos 500000000) (share 500000000 (omega arith))) (constant_whole n few blind_dds (2 * n) (omega arith) (pos 500000000) refl))
-      (writes_reference env (allowed (scope_of n) (role.Table (table.Sight 0))) (codes "blind") blind_dd space blind_word refl (none_among (allowed (scope_of n) (role.Table (table.Sight 0))))))
+      (writes_reference env (allowed_slots (scope_of n) (role.Table (table.Sight 0))) (codes "blind") blind_dd space blind_word refl (none_among (allowed_slots (scope_of n) (role.Table (table.Sight 0))))))
       (lists_cost n few blind_dds (with_sight n few blind_dds l blind_dd.func) w z free h)
 
   deep : (l m : Listed) (us : List Spelled) (depth : ℕ) → depth ≤ 5 → Lists env l m depth us → Lists env l m 5 us
@@ -85,15 +85,15 @@ module _ (n : ℕ) (few : n ≤ 24) where
         (node_whole n few blind_dds (2 * n) (omega arith) 1 (told 850000000 150000000) (told 150000000 850000000) (omega arith) (λ e. omega arith)
         (choice_whole n few blind_dds (2 * n) (omega arith) (pos 850000000) (pos 150000000) refl) (choice_whole n few blind_dds (2 * n) (omega arith) (pos 150000000) (pos 850000000) refl)) at
 
-    look_written : WritesTree env (allowed (scope_of n) (role.Table (table.Sight 0))) look_dd 5
+    look_written : WritesTree env (allowed_slots (scope_of n) (role.Table (table.Sight 0))) look_dd 5
         (primed_group (variable_name 1) (two_branches (told_signs (codes "0.85") (codes "0.15")) (told_signs (codes "0.15") (codes "0.85"))) space)
     look_written =
-        let own : Slots = allowed (scope_of n) (role.Table (table.Sight 0)) in
-        let right = two_ticks (allowed (scope_of n) (role.Table (table.Sight 0))) (codes "0.85") (codes "0.15") 850000000 150000000 spells_right spells_wrong in
-        let wrong = two_ticks (allowed (scope_of n) (role.Table (table.Sight 0))) (codes "0.15") (codes "0.85") 150000000 850000000 spells_wrong spells_right in
-        writes_next n few blind_dds (allowed (scope_of n) (role.Table (table.Sight 0))) 0 3 (told_signs (codes "0.85") (codes "0.15")) (told_signs (codes "0.15") (codes "0.85")) (told 850000000 150000000) (told 150000000 850000000) space (omega arith)
-        (writes_hint n few blind_dds (allowed (scope_of n) (role.Table (table.Sight 0))) 1 (leaf (codes "0.85") tight) (leaf (codes "0.15") tight) (constant_dd env (pos 850000000)) (constant_dd env (pos 150000000)) tight right.0 right.1 (sight_allows n))
-        (writes_hint n few blind_dds (allowed (scope_of n) (role.Table (table.Sight 0))) 1 (leaf (codes "0.15") tight) (leaf (codes "0.85") tight) (constant_dd env (pos 150000000)) (constant_dd env (pos 850000000)) tight wrong.0 wrong.1 (sight_allows n))
+        let own : Slots = allowed_slots (scope_of n) (role.Table (table.Sight 0)) in
+        let right = two_ticks (allowed_slots (scope_of n) (role.Table (table.Sight 0))) (codes "0.85") (codes "0.15") 850000000 150000000 spells_right spells_wrong in
+        let wrong = two_ticks (allowed_slots (scope_of n) (role.Table (table.Sight 0))) (codes "0.15") (codes "0.85") 150000000 850000000 spells_wrong spells_right in
+        writes_next n few blind_dds (allowed_slots (scope_of n) (role.Table (table.Sight 0))) 0 3 (told_signs (codes "0.85") (codes "0.15")) (told_signs (codes "0.15") (codes "0.85")) (told 850000000 150000000) (told 150000000 850000000) space (omega arith)
+        (writes_hint n few blind_dds (allowed_slots (scope_of n) (role.Table (table.Sight 0))) 1 (leaf (codes "0.85") tight) (leaf (codes "0.15") tight) (constant_dd env (pos 850000000)) (constant_dd env (pos 150000000)) tight right.0 right.1 (sight_allows n))
+        (writes_hint n few blind_dds (allowed_slots (scope_of n) (role.Table (table.Sight 0))) 1 (leaf (codes "0.15") tight) (leaf (codes "0.85") tight) (constant_dd env (pos 150000000)) (constant_dd env (pos 850000000)) tight wrong.0 wrong.1 (sight_allows n))
         (sight_allows_first n (omega arith))
 
     pub leads_look : (s : State) → s.env ≡ env → list_any (bytes_eq (codes "look")) s.names ≡ false → (length s.actions == 256) ≡ false
@@ -112,7 +112,7 @@ module _ (n : ℕ) (few : n ≤ 24) where
   moved action k f z = blindly (with_move (nothing action) k f) z
 
   leads_moved : (s : State) (w : List ℕ) (named : IsNameWord w) (k : ℕ) (d : Dd) (us : List Spelled) (c : List ℕ) (z : ℤ) → s.env ≡ env → list_any (bytes_eq w) s.names ≡ false → (length s.actions == 256) ≡ false → k < n
-      → ((at : ℕ) → table_refusal (length (decls 1 n)) (length s.actions) (table.Move k) at d.func ≡ None) → WritesTree env (allowed (scope_of n) (role.Table (table.Move k))) d 5 us → SpellsTicks c z
+      → ((at : ℕ) → table_refusal (length (decls 1 n)) (length s.actions) (table.Move k) at d.func ≡ None) → WritesTree env (allowed_slots (scope_of n) (role.Table (table.Move k))) d 5 us → SpellsTicks c z
       → Leads s (with_action s w named (moved (length s.actions) k d.func z) (blind_dd.func ∷ [])) 5 (action_signs w ((spaced_word (variable_name (suc k)) ∷ us) ++ blindly_signs c))
   leads_moved s w named k d us c z same new room l sound part cost = leads_listed n few blind_dds s w named (moved (length s.actions) k d.func z) blind_dd.func _ 5 same new room refl
       (lists_both env (nothing (length s.actions)) (with_move (nothing (length s.actions)) k d.func) (moved (length s.actions) k d.func z) 5 (spaced_word (variable_name (suc k)) ∷ us) (blindly_signs c)
@@ -128,15 +128,15 @@ module _ (n : ℕ) (few : n ≤ 24) where
   fixed action = moved action 0 fix_dd.func (pos 1000000000)
 
   module _ (some : 1 ≤ n) where
-    fix_written : WritesTree env (allowed (scope_of n) (role.Table (table.Move 0))) fix_dd 5
+    fix_written : WritesTree env (allowed_slots (scope_of n) (role.Table (table.Move 0))) fix_dd 5
         (group (variable_name 1) (two_branches (primed_group (variable_name 1) (two_leaves (codes "0.1") (codes "0.9")) tight) (primed_group (variable_name 1) (two_leaves (codes "0.0") (codes "1.0")) tight)) line)
     fix_written =
-        let off = two_ticks (allowed (scope_of n) (role.Table (table.Move 0))) (codes "0.1") (codes "0.9") 100000000 900000000 spells_tenth spells_nine_tenths in
-        let on = two_ticks (allowed (scope_of n) (role.Table (table.Move 0))) (codes "0.0") (codes "1.0") 0 1000000000 spells_zero spells_one in
-        writes_unprimed n few blind_dds (allowed (scope_of n) (role.Table (table.Move 0))) 0 3 (primed_group (variable_name 1) (two_leaves (codes "0.1") (codes "0.9")) tight) (primed_group (variable_name 1) (two_leaves (codes "0.0") (codes "1.0")) tight)
+        let off = two_ticks (allowed_slots (scope_of n) (role.Table (table.Move 0))) (codes "0.1") (codes "0.9") 100000000 900000000 spells_tenth spells_nine_tenths in
+        let on = two_ticks (allowed_slots (scope_of n) (role.Table (table.Move 0))) (codes "0.0") (codes "1.0") 0 1000000000 spells_zero spells_one in
+        writes_unprimed n few blind_dds (allowed_slots (scope_of n) (role.Table (table.Move 0))) 0 3 (primed_group (variable_name 1) (two_leaves (codes "0.1") (codes "0.9")) tight) (primed_group (variable_name 1) (two_leaves (codes "0.0") (codes "1.0")) tight)
         (choice n few blind_dds 1 (pos 100000000) (pos 900000000)) (choice n few blind_dds 1 (pos 0) (pos 1000000000)) line (omega arith)
-        (writes_next n few blind_dds (allowed (scope_of n) (role.Table (table.Move 0))) 0 1 (leaf (codes "0.1") tight) (leaf (codes "0.9") tight) (constant_dd env (pos 100000000)) (constant_dd env (pos 900000000)) tight (omega arith) off.0 off.1 (move_allows n 0 (omega arith)))
-        (writes_next n few blind_dds (allowed (scope_of n) (role.Table (table.Move 0))) 0 1 (leaf (codes "0.0") tight) (leaf (codes "1.0") tight) (constant_dd env (pos 0)) (constant_dd env (pos 1000000000)) tight (omega arith) on.0 on.1 (move_allows n 0 (omega arith)))
+        (writes_next n few blind_dds (allowed_slots (scope_of n) (role.Table (table.Move 0))) 0 1 (leaf (codes "0.1") tight) (leaf (codes "0.9") tight) (constant_dd env (pos 100000000)) (constant_dd env (pos 900000000)) tight (omega arith) off.0 off.1 (move_allows n 0 (omega arith)))
+        (writes_next n few blind_dds (allowed_slots (scope_of n) (role.Table (table.Move 0))) 0 1 (leaf (codes "0.0") tight) (leaf (codes "1.0") tight) (constant_dd env (pos 0)) (constant_dd env (pos 1000000000)) tight (omega arith) on.0 on.1 (move_allows n 0 (omega arith)))
         (move_allows_first n 0 (omega arith))
 
     fix_sound : (action at : ℕ) → table_refusal (length (decls 1 n)) action (table.Move 0) at fix_dd.func ≡ None
@@ -158,10 +158,10 @@ module _ (n : ℕ) (few : n ≤ 24) where
   switched k action = moved action k (set_dd k).func (pos 500000000)
 
   module _ (k : ℕ) (l : k < n) where
-    set_written : WritesTree env (allowed (scope_of n) (role.Table (table.Move k))) (set_dd k) 3 (primed_group (variable_name (suc k)) (two_leaves (codes "0.0") (codes "1.0")) line)
+    set_written : WritesTree env (allowed_slots (scope_of n) (role.Table (table.Move k))) (set_dd k) 3 (primed_group (variable_name (suc k)) (two_leaves (codes "0.0") (codes "1.0")) line)
     set_written =
-        let on = two_ticks (allowed (scope_of n) (role.Table (table.Move k))) (codes "0.0") (codes "1.0") 0 1000000000 spells_zero spells_one in
-        writes_next n few blind_dds (allowed (scope_of n) (role.Table (table.Move k))) k 1 (leaf (codes "0.0") tight) (leaf (codes "1.0") tight) (constant_dd env (pos 0)) (constant_dd env (pos 1000000000)) line l on.0 on.1 (move_allows n k l)
+        let on = two_ticks (allowed_slots (scope_of n) (role.Table (table.Move k))) (codes "0.0") (codes "1.0") 0 1000000000 spells_zero spells_one in
+        writes_next n few blind_dds (allowed_slots (scope_of n) (role.Table (table.Move k))) k 1 (leaf (codes "0.0") tight) (leaf (codes "1.0") tight) (constant_dd env (pos 0)) (constant_dd env (pos 1000000000)) line l on.0 on.1 (move_allows n k l)
 
     set_sound : (action at : ℕ) → table_refusal (length (decls 1 n)) action (table.Move k) at (set_dd k).func ≡ None
     set_sound action at = sound_move n few blind_dds action k (set_dd k) l refl (choice_shares n few blind_dds (2 * k + 1) 0 1000000000 (omega arith) (omega arith) (omega arith))
@@ -170,4 +170,4 @@ module _ (n : ℕ) (few : n ≤ 24) where
     pub leads_set : (s : State) → s.env ≡ env → list_any (bytes_eq (set_name (suc k))) s.names ≡ false → (length s.actions == 256) ≡ false
         → Leads s (with_action s (set_name (suc k)) (set_word (suc k) (omega arith)) (switched k (length s.actions)) (blind_dd.func ∷ [])) 5 (set_signs (suc k))
     leads_set s same new room = leads_moved s (set_name (suc k)) (set_word (suc k) (omega arith)) k (set_dd k) _ (codes "0.5") (pos 500000000) same new room l (set_sound (length s.actions))
-        (deeper IsTree (Means env (allowed (scope_of n) (role.Table (table.Move k))) (set_dd k)) _ 3 5 (omega arith) set_written) spells_half
+        (deeper IsTree (Means env (allowed_slots (scope_of n) (role.Table (table.Move k))) (set_dd k)) _ 3 5 (omega arith) set_written) spells_half

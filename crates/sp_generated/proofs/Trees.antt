@@ -12,7 +12,7 @@ use Rattle.sp_trees.specs.declared.nodes.Place.TheVariants.{Variable, Sight}
 use Rattle.sp_trees.specs.Slots.{has}
 use Rattle.sp_trees.specs.Nodes.{place_of, values_of}
 use Rattle.sp_written.specs.Acceptance.{IsSaid}
-use Rattle.sp_written.specs.Meanings.{WritesTree, constant_dd, AreNumbered, AreWritten, branch_signs}
+use Rattle.sp_written.specs.Meanings.{WritesTree, constant_dd, AreNamesFrom, AreWritten, branch_signs}
 use Rattle.sp_written.proofs.Trees.{writes_number, writes_node, writes_primed}
 use Rattle.sp_generated.specs.Signs.{variable_name, two_values, two_branches}
 use Rattle.sp_generated.proofs.Words.{variable_word, hint_word, two_numbered}
@@ -26,8 +26,8 @@ module _ (n : ℕ) (few : n ≤ 24) (dds : List (List ℕ × Dd)) (allowed : Slo
 
   module _ (p : Place) (values : values_of (env_of n dds) p ≡ two_values) (w : List ℕ) (word : IsNameWord w) (slot : ℕ) (place : place_of (env_of n dds) w ≡ Some p) (mention : has allowed slot ≡ true)
       (depth : ℕ) (us vs : List Spelled) (a b : Dd) (g : Gap) (first : WritesTree (env_of n dds) allowed a depth us) (second : WritesTree (env_of n dds) allowed b depth vs) where
-    numbered : AreNumbered (values_of (env_of n dds) p) 0 (values_of (env_of n dds) p)
-    numbered = subst (λ xs. AreNumbered xs 0 xs) (sym values) two_numbered
+    numbered : AreNamesFrom (values_of (env_of n dds) p) 0 (values_of (env_of n dds) p)
+    numbered = subst (λ xs. AreNamesFrom xs 0 xs) (sym values) two_numbered
 
     count : length (values_of (env_of n dds) p) ≡ length (a ∷ b ∷ [])
     count = ap length values

@@ -13,7 +13,7 @@ use Rattle.sp_spelled.specs.Words.{SpellsTicks}
 use Rattle.sp_spelled.specs.Written.{IsNameWord}
 use Rattle.sp_spelled.proofs.Keywords.{word_bytes}
 use Rattle.sp_spelled.proofs.Numbers.{numbered_word}
-use Rattle.sp_written.specs.Meanings.{AreNumbered}
+use Rattle.sp_written.specs.Meanings.{AreNamesFrom}
 use Rattle.sp_generated.specs.Signs.{variable_name, set_name, two_values}
 
 pub word_text : (w : List ℕ) → 0 < length w → list_all is_word_byte w ≡ true → IsWordText w
@@ -24,7 +24,7 @@ pub variable_word : (i : ℕ) → i < 2 ^ 64 → IsNameWord (variable_name i)
 unfolding word_class section_keyword inner_keyword
 variable_word i l = record { text = numbered_word 120 i refl l; name = refl }
 
-pub two_numbered : AreNumbered two_values 0 two_values
+pub two_numbered : AreNamesFrom two_values 0 two_values
 two_numbered = (word_text (codes "off") (omega arith) refl, refl, (word_text (codes "on") (omega arith) refl, refl, tt))
 
 pub hint_word : IsNameWord (codes "hint")

@@ -4,7 +4,7 @@ use Rattle.std.specs.Prelude.{nat_lt, if◌then◌else◌}
 use Rattle.std.proofs.lemmas.Bool.{cases_lt}
 use Rattle.std.proofs.lemmas.Bool.Decides.{nat_tests}
 use Rattle.sp_lex.specs.declared.decimal.NumError.TheVariants.{TooLarge}
-use Rattle.sp_lex.specs.Decimal.{number_from, number_of_first, digit_at, signed, limited}
+use Rattle.sp_lex.specs.Decimal.{number_from, number_of_first, digit_at, signed_number, number_within_limit}
 
 grows : (v c : ℕ) (digits : List ℕ) → c ≤ v → c ≤ number_from v digits
 grows v c [] h = h
@@ -52,12 +52,12 @@ unfolding number_of_first
 first_more n digits = rw add-one refl
 
 -- within the limit nothing was cut, and a number past it stays past it when it is cut
-pub limited_same : (negative : Bool) (v n : ℕ) → limited negative (min 2000000000 v * 1000000000 + n) ≡ limited negative (v * 1000000000 + n)
+pub limited_same : (negative : Bool) (v n : ℕ) → number_within_limit negative (min 2000000000 v * 1000000000 + n) ≡ number_within_limit negative (v * 1000000000 + n)
 limited_same negative v n =
-    ⊎_elim (λ less. let e : min 2000000000 v ≡ v = omega arith in ap (λ v. limited negative (v * 1000000000 + n)) e)
+    ⊎_elim (λ less. let e : min 2000000000 v ≡ v = omega arith in ap (λ v. number_within_limit negative (v * 1000000000 + n)) e)
     (λ more.
-    (λ i. if (too_large (min 2000000000 v) (omega arith) i) then Err TooLarge else Ok (signed negative (min 2000000000 v * 1000000000 + n)))
-    ∙ sym (λ i. if (too_large v more i) then Err TooLarge else Ok (signed negative (v * 1000000000 + n)))) (cases_lt v 2000000000)
+    (λ i. if (too_large (min 2000000000 v) (omega arith) i) then Err TooLarge else Ok (signed_number negative (min 2000000000 v * 1000000000 + n)))
+    ∙ sym (λ i. if (too_large v more i) then Err TooLarge else Ok (signed_number negative (v * 1000000000 + n)))) (cases_lt v 2000000000)
   where
     too_large : (v : ℕ) → 2000000000 ≤ v → nat_lt 1000000000000000000 (v * 1000000000 + n) ≡ true
     too_large v h = let lt : 1000000000000000000 < v * 1000000000 + n = omega arith in grind (arith, nat_tests)

@@ -14,7 +14,7 @@ use Rattle.sp_lex.specs.declared.lexer.ByteClass.{ByteClass}
 use Rattle.sp_lex.specs.declared.lexer.ByteClass.TheVariants.{InWord, Slash, White, Single, Forbidden}
 use Rattle.sp_lex.specs.Bytes.{is_word_byte, is_white, is_not_line_feed, class_of, has_byte}
 use Rattle.sp_lex.specs.Tokens.{token_piece, gap_piece, word_piece, piece_by, piece_of, token_of, behind, tokens_from, tokens_of}
-use Rattle.sp_lex.specs.Places.{IsInComment, is_allowed, is_mark, IsForbidden, IsFirstForbidden, IsBetweenTokens, IsWordRun, IsOfKind, IsTokenOf, IsInSpan, IsRising, IsCut}
+use Rattle.sp_lex.specs.Places.{IsInComment, is_allowed, is_mark, IsForbiddenByte, IsFirstForbidden, IsBetweenTokens, IsWordRun, IsOfKind, IsTokenOf, IsInSpan, AreSpansRising, IsCut}
 use Rattle.sp_lex.proofs.Classes.{differ, word_byte_allowed, white_allowed, white_not_word, mark_allowed, mark_not_word, SingleFacts, ClassFacts, class_facts}
 use Rattle.sp_lex.proofs.Steps.{at_piece, at_forbidden}
 
@@ -65,7 +65,7 @@ record IsRead (source : List ℕ) (at end : ℕ) (kind : Option TokenKind) : Typ
   pub some : at < end
   pub fits : end ≤ length source
   pub piece : IsPiece source at end kind
-  pub allowed : (k : ℕ) → at ≤ k → k < end → ¬ IsForbidden source k
+  pub allowed : (k : ℕ) → at ≤ k → k < end → ¬ IsForbiddenByte source k
   pub next : IsBoundary source end
 
 module _ (source : List ℕ) (at : ℕ) (in_text : at < length source) (boundary : IsBoundary source at) where
@@ -301,7 +301,7 @@ module _ (source : List ℕ) (at : ℕ) (in_text : at < length source) (boundary
   none_by_class (Single kind) h e = cc
   none_by_class Forbidden h e = h
 
-  none_forbidden : piece_of (drop at source) ≡ None → IsForbidden source at
+  none_forbidden : piece_of (drop at source) ≡ None → IsForbiddenByte source at
   unfolding piece_of
   none_forbidden e =
       let byte = none_by_class (class_of (slice_index (drop at source) 0)) class_here e in
@@ -314,15 +314,15 @@ module _ (source : List ℕ) (at : ℕ) (in_text : at < length source) (boundary
 -- the tokens from a place on
 pub record IsCutFrom (source : List ℕ) (at : ℕ) (tokens : List Token) : Type 0 where
   pub each : All (IsTokenOf source) tokens
-  pub rising : IsRising at tokens
+  pub rising : AreSpansRising at tokens
   pub rest : (k : ℕ) → at ≤ k → k < length source → Any (IsInSpan k) tokens ⊎ IsBetweenTokens source k
 
 -- the first byte from a place on that is not allowed
 record IsFirstFrom (source : List ℕ) (at place : ℕ) : Type 0 where
-  pub here : IsForbidden source place
-  pub first : (k : ℕ) → at ≤ k → k < place → ¬ IsForbidden source k
+  pub here : IsForbiddenByte source place
+  pub first : (k : ℕ) → at ≤ k → k < place → ¬ IsForbiddenByte source k
 
-rising_from : (low high : ℕ) (tokens : List Token) → low ≤ high → IsRising high tokens → IsRising low tokens
+rising_from : (low high : ℕ) (tokens : List Token) → low ≤ high → AreSpansRising high tokens → AreSpansRising low tokens
 rising_from low high [] h rising = tt
 rising_from low high (token ∷ tokens) h rising = let a = rising.0 in (omega arith, rising.1)
 

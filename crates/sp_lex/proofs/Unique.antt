@@ -7,7 +7,7 @@ use Rattle.sp_lex.specs.declared.lexeme.TokenKind.TheVariants.{LeftRound, RightR
 use Rattle.sp_lex.specs.declared.lexeme.Token.{Token}
 use Rattle.sp_lex.specs.Bytes.{is_word_byte, is_white}
 use Rattle.sp_lex.specs.Tokens.{tokens_of}
-use Rattle.sp_lex.specs.Places.{is_allowed, IsForbidden, IsFirstForbidden, IsBetweenTokens, IsWordRun, IsOfKind, IsTokenOf, IsInSpan, IsRising, IsCut}
+use Rattle.sp_lex.specs.Places.{is_allowed, IsForbiddenByte, IsFirstForbidden, IsBetweenTokens, IsWordRun, IsOfKind, IsTokenOf, IsInSpan, AreSpansRising, IsCut}
 use Rattle.sp_lex.proofs.Classes.{word_byte_allowed, white_allowed, mark_allowed, mark_not_word, mark_not_white, word_byte_not_white, kind_of_byte, mark_kind}
 use Rattle.sp_lex.proofs.Places.{IsCutFrom, cut_or_forbidden}
 
@@ -125,7 +125,7 @@ module _ (source : List ℕ) where
   first_or_later token tokens k (suc i) x h e here = inr (i, x, omega arith, e, here)
 
   -- what lies in the span of a token lies behind the place from which the tokens rise
-  in_span_behind : (tokens : List Token) (from k : ℕ) → All (IsTokenOf source) tokens → IsRising from tokens → Any (IsInSpan k) tokens → from ≤ k
+  in_span_behind : (tokens : List Token) (from k : ℕ) → All (IsTokenOf source) tokens → AreSpansRising from tokens → Any (IsInSpan k) tokens → from ≤ k
   in_span_behind [] from k each rising any = let none = any.2 in absurd (omega arith)
   in_span_behind (token ∷ tokens) from k each rising any =
       let some = (first_token token tokens each).some in
@@ -148,7 +148,7 @@ module _ (source : List ℕ) where
   }
 
   -- no token begins where the tokens of another list have only what stands between them
-  not_before : (token : Token) (tokens : List Token) (at from : ℕ) → IsTokenOf source token → IsCutFrom source at tokens → at ≤ token.span.start → IsRising from tokens → from ≤ token.span.start
+  not_before : (token : Token) (tokens : List Token) (at from : ℕ) → IsTokenOf source token → IsCutFrom source at tokens → at ≤ token.span.start → AreSpansRising from tokens → from ≤ token.span.start
   not_before token tokens at from is cut low rising =
       let some = is.some in
       let within = is.within in
@@ -180,7 +180,7 @@ module _ (source : List ℕ) where
       let rest : xs ≡ ys = one_cut xs ys x.span.end (behind_first x xs at a) (subst (λ (t : Token). IsCutFrom source t.span.end ys) (sym same) (behind_first y ys at b)) in
       λ i. same i ∷ rest i
 
-  none_forbidden : (list : List Token) → IsCut source list → (k : ℕ) → ¬ IsForbidden source k
+  none_forbidden : (list : List Token) → IsCut source list → (k : ℕ) → ¬ IsForbiddenByte source k
   none_forbidden list cut k forbidden =
       let no = forbidden.byte in
       ⊎_elim

@@ -71,9 +71,9 @@ pub record Spells (word : List ℕ) (decimal : Decimal) : Type 0 where
   pub text : (word ≡ sign_of decimal.negative ++ (decimal.whole ++ 46 ∷ decimal.places)) ⊎ ((word ≡ sign_of decimal.negative ++ decimal.whole) × (decimal.places ≡ []))
 
 -- a magnitude with its sign
-abbrev pub signed : Bool → ℕ → ℤ
-signed true magnitude = neg_ℤ (pos magnitude)
-signed false magnitude = pos magnitude
+abbrev pub signed_number : Bool → ℕ → ℤ
+signed_number true magnitude = neg_ℤ (pos magnitude)
+signed_number false magnitude = pos magnitude
 
 -- how many ticks a decimal has, without its sign and its digits behind the ninth place
 abbrev pub magnitude_of : Decimal → ℕ
@@ -84,13 +84,13 @@ abbrev pub is_whole_ticks : List ℕ → Bool
 is_whole_ticks places = list_all (λ d. d == 48) (drop 9 places)
 
 -- a magnitude with its sign, if it is not too large
-abbrev pub limited : Bool → ℕ → Result ℤ NumError
-limited negative magnitude = if nat_lt most_ticks magnitude then Err TooLarge else Ok (signed negative magnitude)
+abbrev pub number_within_limit : Bool → ℕ → Result ℤ NumError
+number_within_limit negative magnitude = if nat_lt most_ticks magnitude then Err TooLarge else Ok (signed_number negative magnitude)
 
 -- the ticks of a decimal, or why it has none
 abbrev pub ticks_of_decimal : Option Decimal → Result ℤ NumError
 ticks_of_decimal None = Err Shape
-ticks_of_decimal (Some d) = if is_whole_ticks d.places then limited d.negative (magnitude_of d) else Err TooFine
+ticks_of_decimal (Some d) = if is_whole_ticks d.places then number_within_limit d.negative (magnitude_of d) else Err TooFine
 
 -- the ticks of a word, or why it has none
 unfoldable pub ticks_of : List ℕ → Result ℤ NumError

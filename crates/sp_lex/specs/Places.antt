@@ -18,15 +18,15 @@ abbrev pub is_allowed : ℕ → Bool
 is_allowed b = b == 9 || b == 10 || b == 13 || (nat_le 32 b && nat_le b 126)
 
 -- a byte outside comments that is not allowed
-pub record IsForbidden (source : List ℕ) (place : ℕ) : Type 0 where
+pub record IsForbiddenByte (source : List ℕ) (place : ℕ) : Type 0 where
   pub within : place < length source
   pub byte : is_allowed (slice_index source place) ≡ false
   pub outside : ¬ IsInComment source place
 
 -- the first such byte
 pub record IsFirstForbidden (source : List ℕ) (place : ℕ) : Type 0 where
-  pub here : IsForbidden source place
-  pub first : (k : ℕ) → k < place → ¬ IsForbidden source k
+  pub here : IsForbiddenByte source place
+  pub first : (k : ℕ) → k < place → ¬ IsForbiddenByte source k
 
 -- white space or a comment
 abbrev pub IsBetweenTokens : List ℕ → ℕ → Type 0
@@ -65,12 +65,12 @@ abbrev pub IsInSpan : ℕ → Token → Type 0
 IsInSpan place token = (token.span.start ≤ place) × (place < token.span.end)
 
 -- spans rise and do not overlap: each begins at the end of the one before, or behind it
-abbrev pub IsRising : ℕ → List Token → Type 0
-IsRising end [] = ⊤
-IsRising end (token ∷ tokens) = (end ≤ token.span.start) × IsRising token.span.end tokens
+abbrev pub AreSpansRising : ℕ → List Token → Type 0
+AreSpansRising end [] = ⊤
+AreSpansRising end (token ∷ tokens) = (end ≤ token.span.start) × AreSpansRising token.span.end tokens
 
 -- the tokens of a text: they rise, and what lies in none of their spans is white space or a comment
 pub record IsCut (source : List ℕ) (tokens : List Token) : Type 0 where
   pub each : All (IsTokenOf source) tokens
-  pub rising : IsRising 0 tokens
+  pub rising : AreSpansRising 0 tokens
   pub rest : (k : ℕ) → k < length source → Any (IsInSpan k) tokens ⊎ IsBetweenTokens source k

@@ -61,6 +61,6 @@ abbrev pub tokens_of : List ℕ → Result (List Token) ℕ
 tokens_of source = tokens_from 0 0 source
 
 -- an error says why the text has no tokens, or that memory is out
-abbrev pub Refuses : Result (List Token) ℕ → LexError → Type 0
-Refuses read (NotAscii at) = read ≡ Err at
-Refuses read NoMemory = ⊤
+abbrev pub RefusesBytes : Result (List Token) ℕ → LexError → Type 0
+RefusesBytes read (NotAscii at) = read ≡ Err at
+RefusesBytes read NoMemory = ⊤

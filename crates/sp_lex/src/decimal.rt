@@ -1,7 +1,7 @@
 ghost use Rattle.std.specs.Prelude.{◌≡◌, ◌+◌, ◌*◌, ◌<◌, ◌≤◌, ◌==◌, min, option_map, length, drop, take_while};
 ghost use Rattle.std.specs.List.{list_all};
 ghost use Rattle.std.specs.Char.{is_ascii_digit};
-ghost use Rattle.sp_lex.specs.Decimal.{decimal_of, decimal_of_parts, digit_at, is_whole_ticks, limited, number_from, number_of_first, signed, ticks_of};
+ghost use Rattle.sp_lex.specs.Decimal.{decimal_of, decimal_of_parts, digit_at, is_whole_ticks, number_within_limit, number_from, number_of_first, signed_number, ticks_of};
 
 use thiserror::Error;
 
@@ -134,7 +134,7 @@ fn split(word: &[u8]) -> Option<Parts<'_>>
 
 /// A magnitude with its sign.
 fn signed(negative: bool, magnitude: u64) -> i128
-    ensures { result ≡ signed negative magnitude }
+    ensures { result ≡ signed_number negative magnitude }
 {
     let ticks = i128::from(magnitude);
     if negative { -ticks } else { ticks }
@@ -143,7 +143,7 @@ fn signed(negative: bool, magnitude: u64) -> i128
 /// The ticks of whole digits and nine places.
 #[tactic(auto, using(crate::proofs::Digits::limited_same))]
 fn limited(negative: bool, whole: &[u8], places: &[u8]) -> Result<i128, NumError>
-    ensures { result ≡ limited negative (number_from 0 whole.now * TICKS_PER_ONE + number_of_first 9 places.now) }
+    ensures { result ≡ number_within_limit negative (number_from 0 whole.now * TICKS_PER_ONE + number_of_first 9 places.now) }
 {
     let magnitude = whole_number(whole) * TICKS_PER_ONE + nine_places(places);
     if magnitude > MOST_TICKS {

@@ -1,6 +1,6 @@
 ghost use Rattle.std.specs.Prelude.{◌≡◌, ◌+◌, ◌<◌, ◌≤◌, ◌++◌, ℕ, Ok, IfErr, IfOk, IfSome, IsTrue, OnOk, drop, length, take_while};
 ghost use Rattle.sp_lex.specs.Bytes.{class_of, has_byte, is_not_line_feed, is_word_byte};
-ghost use Rattle.sp_lex.specs.Tokens.{Refuses, piece_of, token_of, tokens_of};
+ghost use Rattle.sp_lex.specs.Tokens.{RefusesBytes, piece_of, token_of, tokens_of};
 
 use crate::lexeme::{Span, Token, TokenKind, Tokens};
 use std::alloc::{AllocError, Global};
@@ -188,7 +188,7 @@ fn put(
 #[tactic(auto, using(crate::proofs::Steps::read_nothing, crate::proofs::Steps::read_all, crate::proofs::Steps::read_forbidden, crate::proofs::Steps::read_piece))]
 pub fn tokens(alloc: Global, source: &[u8]) -> Result<Tokens, LexError>
     ensures ok { IfOk result (λ list. tokens_of source.now ≡ Ok list) }
-    ensures err { IfErr result (λ error. Refuses (tokens_of source.now) error) }
+    ensures err { IfErr result (λ error. RefusesBytes (tokens_of source.now) error) }
 {
     let mut list = Vec::new(alloc);
     let mut at = 0;

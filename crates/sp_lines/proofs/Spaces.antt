@@ -2,16 +2,16 @@
 use Rattle.std.proofs.Common.{◌≡◌, ℕ, ◌<◌, List, [], ◌∷◌, ◌++◌, length, ap, sym, ◌∙◌, append_assoc, arith}
 use Rattle.std.specs.List.{AllByRecursion}
 use Rattle.std.specs.Fmt.{decimal}
-use Rattle.sp_lines.specs.Lines.{spaced, spaced_pairs, IsSmall, IsSmallPair, BeginsNoDigit, BeginsSpaced, BeginsPair}
+use Rattle.sp_lines.specs.Lines.{numbers_behind_spaces, spaced_pairs, IsSmall, IsSmallPair, BeginsNoDigit, BeginsSpaced, BeginsPair}
 use Rattle.sp_lines.proofs.Digits.{number_told}
 
-pub spaced_ends : (ns : List ℕ) → BeginsNoDigit (spaced ns)
+pub spaced_ends : (ns : List ℕ) → BeginsNoDigit (numbers_behind_spaces ns)
 spaced_ends [] = tt
 spaced_ends (n ∷ ns) = λ r. omega (arith, r)
 
-pub spaced_push : (ns : List ℕ) (n : ℕ) (more : List ℕ) → spaced (ns ++ (n ∷ [])) ++ more ≡ spaced ns ++ (32 ∷ (decimal n ++ more))
+pub spaced_push : (ns : List ℕ) (n : ℕ) (more : List ℕ) → numbers_behind_spaces (ns ++ (n ∷ [])) ++ more ≡ numbers_behind_spaces ns ++ (32 ∷ (decimal n ++ more))
 spaced_push [] n more = ap (λ l. 32 ∷ l) (append_assoc (decimal n) [] more)
-spaced_push (m ∷ ns) n more = ap (λ l. 32 ∷ l) (append_assoc (decimal m) (spaced (ns ++ (n ∷ []))) more ∙ ap (λ l. decimal m ++ l) (spaced_push ns n more) ∙ sym (append_assoc (decimal m) (spaced ns) (32 ∷ (decimal n ++ more))))
+spaced_push (m ∷ ns) n more = ap (λ l. 32 ∷ l) (append_assoc (decimal m) (numbers_behind_spaces (ns ++ (n ∷ []))) more ∙ ap (λ l. decimal m ++ l) (spaced_push ns n more) ∙ sym (append_assoc (decimal m) (numbers_behind_spaces ns) (32 ∷ (decimal n ++ more))))
 
 pub small_push : (ns : List ℕ) (n : ℕ) → AllByRecursion IsSmall ns → IsSmall n → AllByRecursion IsSmall (ns ++ (n ∷ []))
 small_push [] n all small = (small, tt)
@@ -19,28 +19,28 @@ small_push (m ∷ ns) n all small = (all.0, small_push ns n all.1 small)
 
 -- what may be left of a list of numbers
 abbrev pub IsList : List ℕ → Type 0
-IsList text = (ms : List ℕ) × AllByRecursion IsSmall ms × (text ≡ spaced ms)
+IsList text = (ms : List ℕ) × AllByRecursion IsSmall ms × (text ≡ numbers_behind_spaces ms)
 
 pub list_after : (text : List ℕ) (n : ℕ) (more : List ℕ) → BeginsSpaced text n more → IsList text → IsList more
 list_after text n more begins ([], small, e) =
     let none : 32 ∷ (decimal n ++ more) ≡ [] = sym begins.is ∙ e in
     cc
 list_after text n more begins (m ∷ ms, small, e) =
-    let tails : decimal n ++ more ≡ decimal m ++ spaced ms = cc (begins.is, e) in
-    let told = number_told n m more (spaced ms) begins.small small.0 begins.ends (spaced_ends ms) tails in
+    let tails : decimal n ++ more ≡ decimal m ++ numbers_behind_spaces ms = cc (begins.is, e) in
+    let told = number_told n m more (numbers_behind_spaces ms) begins.small small.0 begins.ends (spaced_ends ms) tails in
     (ms, small.1, told.1)
 
 pub list_begins : (text : List ℕ) → 0 < length text → IsList text → ((n : ℕ) (rest : List ℕ) → ¬ (BeginsSpaced text n rest)) → ⊥
 list_begins text some ([], small, e) none = omega (arith, some, ap length e)
-list_begins text some (m ∷ ms, small, e) none = none m (spaced ms) (record { is = e; small = small.0; ends = spaced_ends ms })
+list_begins text some (m ∷ ms, small, e) none = none m (numbers_behind_spaces ms) (record { is = e; small = small.0; ends = spaced_ends ms })
 
 -- the first of listed numbers is told
-pub spaced_rest : (text : List ℕ) (n : ℕ) (more : List ℕ) (m : ℕ) (ms : List ℕ) → BeginsSpaced text n more → IsSmall m → text ≡ spaced (m ∷ ms) → (n ≡ m) × (more ≡ spaced ms)
+pub spaced_rest : (text : List ℕ) (n : ℕ) (more : List ℕ) (m : ℕ) (ms : List ℕ) → BeginsSpaced text n more → IsSmall m → text ≡ numbers_behind_spaces (m ∷ ms) → (n ≡ m) × (more ≡ numbers_behind_spaces ms)
 spaced_rest text n more m ms begins small e =
-    let tails : decimal n ++ more ≡ decimal m ++ spaced ms = cc (begins.is, e) in
-    number_told n m more (spaced ms) begins.small small begins.ends (spaced_ends ms) tails
+    let tails : decimal n ++ more ≡ decimal m ++ numbers_behind_spaces ms = cc (begins.is, e) in
+    number_told n m more (numbers_behind_spaces ms) begins.small small begins.ends (spaced_ends ms) tails
 
-pub one_read : (text : List ℕ) (n : ℕ) (more : List ℕ) → BeginsSpaced text n more → length more ≡ 0 → text ≡ spaced (n ∷ [])
+pub one_read : (text : List ℕ) (n : ℕ) (more : List ℕ) → BeginsSpaced text n more → length more ≡ 0 → text ≡ numbers_behind_spaces (n ∷ [])
 one_read text n [] begins e = begins.is
 one_read text n (x ∷ more) begins e = absurd (omega (arith, e))
 

@@ -13,9 +13,9 @@ abbrev pub IsSmallPair : ℕ × ℕ → Type 0
 IsSmallPair pair = IsSmall pair.0 × IsSmall pair.1
 
 -- each number behind a space
-abbrev pub spaced : List ℕ → List ℕ
-spaced [] = []
-spaced (n ∷ numbers) = 32 ∷ (decimal n ++ spaced numbers)
+abbrev pub numbers_behind_spaces : List ℕ → List ℕ
+numbers_behind_spaces [] = []
+numbers_behind_spaces (n ∷ numbers) = 32 ∷ (decimal n ++ numbers_behind_spaces numbers)
 
 -- each number of the pairs behind a space
 abbrev pub spaced_pairs : List (ℕ × ℕ) → List ℕ

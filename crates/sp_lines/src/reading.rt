@@ -4,7 +4,7 @@ ghost use Rattle.std.specs.Prelude.{◌≡◌, ◌≢◌, ℕ, ◌<◌, ◌≤�
 ghost use Rattle.std.specs.Str.Parse.{AllDigits, digits_value};
 ghost use Rattle.std.specs.Fmt.{decimal};
 ghost use Rattle.std.specs.List.{AllByRecursion};
-ghost use Rattle.sp_lines.specs.Lines.{spaced, spaced_pairs, IsSmall, IsSmallPair, BeginsNoDigit, BeginsNumber, BeginsSpaced, BeginsPair, BeginsLine, Lacks};
+ghost use Rattle.sp_lines.specs.Lines.{numbers_behind_spaces, spaced_pairs, IsSmall, IsSmallPair, BeginsNoDigit, BeginsNumber, BeginsSpaced, BeginsPair, BeginsLine, Lacks};
 
 use memchr::memchr;
 use sp_dd::{Ids, NoMemory, Pairs};
@@ -78,7 +78,7 @@ pub fn first_number(text: &[u8]) -> Option<(u64, &[u8])>
 
 /// The numbers that a text lists, each behind a space; none where it is no such list.
 pub fn spaced_numbers(alloc: Global, text: &[u8]) -> Result<Option<Ids>, NoMemory>
-    ensures { IfOk result (λ found. MatchOption found ((ns : List ℕ) → AllByRecursion IsSmall ns → text.now ≢ spaced ns) (λ ns. (text.now ≡ spaced ns) × AllByRecursion IsSmall ns)) }
+    ensures { IfOk result (λ found. MatchOption found ((ns : List ℕ) → AllByRecursion IsSmall ns → text.now ≢ numbers_behind_spaces ns) (λ ns. (text.now ≡ numbers_behind_spaces ns) × AllByRecursion IsSmall ns)) }
 {
     let mut numbers = Ids::new(alloc);
     let mut rest = text;
@@ -115,7 +115,7 @@ pub fn behind<'a>(text: &'a [u8], word: &[u8]) -> Option<&'a [u8]>
 
 /// The one number that a text lists behind a space.
 pub fn one_number(text: &[u8]) -> Option<u64>
-    ensures { MatchOption result ((x : ℕ) → IsSmall x → text.now ≢ spaced (x ∷ [])) (λ x. IsSmall x × (text.now ≡ spaced (x ∷ []))) }
+    ensures { MatchOption result ((x : ℕ) → IsSmall x → text.now ≢ numbers_behind_spaces (x ∷ [])) (λ x. IsSmall x × (text.now ≡ numbers_behind_spaces (x ∷ []))) }
 {
     let (number, rest) = behind_space(text)?;
     if rest.is_empty() { Some(number) } else { None }
@@ -123,7 +123,7 @@ pub fn one_number(text: &[u8]) -> Option<u64>
 
 /// The two numbers that a text lists, each behind a space.
 pub fn two_numbers(text: &[u8]) -> Option<(u64, u64)>
-    ensures { MatchOption result ((x y : ℕ) → IsSmall x → IsSmall y → text.now ≢ spaced (x ∷ y ∷ [])) (λ r. IsSmall r.0 × IsSmall r.1 × (text.now ≡ spaced (r.0 ∷ r.1 ∷ []))) }
+    ensures { MatchOption result ((x y : ℕ) → IsSmall x → IsSmall y → text.now ≢ numbers_behind_spaces (x ∷ y ∷ [])) (λ r. IsSmall r.0 × IsSmall r.1 × (text.now ≡ numbers_behind_spaces (r.0 ∷ r.1 ∷ []))) }
 {
     let (first, rest) = behind_space(text)?;
     match one_number(rest) {
@@ -134,7 +134,7 @@ pub fn two_numbers(text: &[u8]) -> Option<(u64, u64)>
 
 /// The three numbers that a text lists, each behind a space.
 pub fn three_numbers(text: &[u8]) -> Option<(u64, u64, u64)>
-    ensures { MatchOption result ((x y z : ℕ) → IsSmall x → IsSmall y → IsSmall z → text.now ≢ spaced (x ∷ y ∷ z ∷ [])) (λ r. IsSmall r.0 × IsSmall r.1 × IsSmall r.2 × (text.now ≡ spaced (r.0 ∷ r.1 ∷ r.2 ∷ []))) }
+    ensures { MatchOption result ((x y z : ℕ) → IsSmall x → IsSmall y → IsSmall z → text.now ≢ numbers_behind_spaces (x ∷ y ∷ z ∷ [])) (λ r. IsSmall r.0 × IsSmall r.1 × IsSmall r.2 × (text.now ≡ numbers_behind_spaces (r.0 ∷ r.1 ∷ r.2 ∷ []))) }
 {
     let (first, rest) = behind_space(text)?;
     match two_numbers(rest) {

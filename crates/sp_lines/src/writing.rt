@@ -2,7 +2,7 @@
 
 ghost use Rattle.std.specs.Prelude.{◌≡◌, ◌++◌, OnOk};
 ghost use Rattle.std.specs.Fmt.{decimal};
-ghost use Rattle.sp_lines.specs.Lines.{spaced};
+ghost use Rattle.sp_lines.specs.Lines.{numbers_behind_spaces};
 
 use itoa::Buffer;
 use sp_dd::NoMemory;
@@ -25,7 +25,7 @@ pub fn put_number(text: &mut Vec<u8>, number: u64) -> Result<(), NoMemory>
 
 /// Adds the decimals of numbers, each behind a space.
 pub fn put_numbers(text: &mut Vec<u8>, numbers: &[u64]) -> Result<(), NoMemory>
-    ensures { OnOk result (text.new.items ≡ text.old.items ++ spaced numbers.now) }
+    ensures { OnOk result (text.new.items ≡ text.old.items ++ numbers_behind_spaces numbers.now) }
 {
     for number in numbers {
         put(text, b" ")?;

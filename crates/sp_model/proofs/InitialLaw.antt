@@ -15,7 +15,7 @@ use Rattle.sp_theory.proofs.Carried.{IsPoint-put}
 use Rattle.sp_model.specs.declared.parts.Factor.{Factor}
 use Rattle.sp_model.specs.declared.parts.Parts.{Parts}
 use Rattle.sp_model.specs.Sizes.{AllSome}
-use Rattle.sp_model.specs.Problem.{sizes_of, shape_of, doubled, padded, in_turn, point_of, vector_of, factor_of, problem, no_factor}
+use Rattle.sp_model.specs.Problem.{sizes_of, shape_of, twice_each, first_numbers, in_turn, point_of, vector_of, factor_of, problem, no_factor}
 use Rattle.sp_model.specs.Kept.{IsProbability, IsFactor, IsModel, summed_out_own, all_own}
 use Rattle.sp_model.proofs.SlotPoints.{Fits-point, Fits-none, padded-whole, length-padded, set-unprimed, size-unprimed}
 use Rattle.sp_model.proofs.RowLaw.{some_sizes, point_in, value_in}
@@ -27,26 +27,26 @@ pub summed_out_own-shape : (f : Func) (own : List ℕ) → (summed_out_own f own
 summed_out_own-shape f [] = refl
 summed_out_own-shape f (i ∷ own) = summed_out_own-shape f own
 
-module _ (ks js : List ℕ) (n m : ℕ) (long : length ks ≡ n) (wide : length js ≡ m) (some : AllSome ks) (seen : AllSome js) (cells : 0 < slots.product (doubled ks ++ js)) where
+module _ (ks js : List ℕ) (n m : ℕ) (long : length ks ≡ n) (wide : length js ≡ m) (some : AllSome ks) (seen : AllSome js) (cells : 0 < slots.product (twice_each ks ++ js)) where
   -- the point of a state
   abbrev at_state : List ℕ → List ℕ
-  at_state s = in_turn (padded n s) (padded n []) ++ padded m []
+  at_state s = in_turn (first_numbers n s) (first_numbers n []) ++ first_numbers m []
 
-  state_point : (s : List ℕ) → theory.IsPoint ks s → slots.IsPoint (doubled ks ++ js) (at_state s)
+  state_point : (s : List ℕ) → theory.IsPoint ks s → slots.IsPoint (twice_each ks ++ js) (at_state s)
   state_point s at = point_in ks js n m long wide some seen s [] [] (Fits-point ks s at) (Fits-none ks) (Fits-none js)
 
-  whole_state : (s : List ℕ) → theory.IsPoint ks s → padded n s ≡ s
-  whole_state s at = ap (λ (c : ℕ). padded c s) (sym long) ∙ padded-whole ks s at
+  whole_state : (s : List ℕ) → theory.IsPoint ks s → first_numbers n s ≡ s
+  whole_state s at = ap (λ (c : ℕ). first_numbers c s) (sym long) ∙ padded-whole ks s at
 
   -- one variable with another value
   state_put : (s : List ℕ) (i v : ℕ) → theory.IsPoint ks s → i < length ks → v < get_or ks i 0 → slice_set (at_state s) (2 * i) v ≡ at_state (theory.put s i v)
   state_put s i v at known less =
-      let same : length (padded n s) ≡ length (padded n []) = length-padded n s ∙ sym (length-padded n []) in
+      let same : length (first_numbers n s) ≡ length (first_numbers n []) = length-padded n s ∙ sym (length-padded n []) in
       let count = length-padded n s in
-      set-unprimed (padded n s) (padded n []) (padded m []) i v same (omega (arith, count, long, known))
-      ∙ ap (λ (l : List ℕ). in_turn l (padded n []) ++ padded m []) (ap (λ (l : List ℕ). theory.put l i v) (whole_state s at) ∙ sym (whole_state (theory.put s i v) (IsPoint-put ks s i v at less)))
+      set-unprimed (first_numbers n s) (first_numbers n []) (first_numbers m []) i v same (omega (arith, count, long, known))
+      ∙ ap (λ (l : List ℕ). in_turn l (first_numbers n []) ++ first_numbers m []) (ap (λ (l : List ℕ). theory.put l i v) (whole_state s at) ∙ sym (whole_state (theory.put s i v) (IsPoint-put ks s i v at less)))
 
-  own_sum : (f : Func) → f.shape.sizes ≡ doubled ks ++ js → IsProbability f → (own : List ℕ) → All (λ i. i < length ks) own → (s : List ℕ) → theory.IsPoint ks s
+  own_sum : (f : Func) → f.shape.sizes ≡ twice_each ks ++ js → IsProbability f → (own : List ℕ) → All (λ i. i < length ks) own → (s : List ℕ) → theory.IsPoint ks s
       → model.sum_over_own ks own (λ t. pos (unsigned_abs (value_of f (at_state t)))) s ≡ value_of (summed_out_own f own) (at_state s)
   unfolding model.sum_over_own
   own_sum f shape probability [] within s at = value_in ks js n m long wide some seen f shape probability (at_state s) (state_point s at)
@@ -54,7 +54,7 @@ module _ (ks js : List ℕ) (n m : ℕ) (long : length ks ≡ n) (wide : length 
       let known : i < length ks = All-get_or (λ i. i < length ks) (i ∷ own) 0 0 (omega arith) within in
       let rest : All (λ i. i < length ks) own = All-from_get_or (λ i. i < length ks) own 0 (λ k less. All-get_or (λ i. i < length ks) (i ∷ own) (suc k) 0 (omega arith) within) in
       let g : Func = summed_out_own f own in
-      let same : g.shape.sizes ≡ doubled ks ++ js = ap (λ (c : Shape). c.sizes) (summed_out_own-shape f own) ∙ shape in
+      let same : g.shape.sizes ≡ twice_each ks ++ js = ap (λ (c : Shape). c.sizes) (summed_out_own-shape f own) ∙ shape in
       let size : size_of g.shape (2 * i) ≡ get_or ks i 0 = ap (λ (l : List ℕ). get_or l (2 * i) 0) same ∙ size-unprimed ks js i known in
       let P : List ℕ → Type 0 = λ l. slots.IsPoint l (at_state s) in
       let Q : List ℕ → Type 0 = λ l. 0 < slots.product l in
@@ -99,10 +99,10 @@ half j n less = record { variable = j / 2; within = omega arith; is = parity j }
     parity j = ⊎_elim (λ (h : j % 2 < 1). inl (omega arith)) (λ (h : 1 ≤ j % 2). inr (omega arith)) (cases_lt (j % 2) 1)
 
 -- sizes above 0 have a point
-product_some : (ks js : List ℕ) → AllSome ks → AllSome js → 0 < slots.product (doubled ks ++ js)
+product_some : (ks js : List ℕ) → AllSome ks → AllSome js → 0 < slots.product (twice_each ks ++ js)
 product_some [] [] some seen = omega arith
 product_some [] (j ∷ js) some seen = times_some j (slots.product js) seen.0 (product_some [] js tt seen.1)
-product_some (k ∷ ks) js some seen = let rest = product_some ks js some.1 seen in times_some k (k * slots.product (doubled ks ++ js)) some.0 (times_some k (slots.product (doubled ks ++ js)) some.0 rest)
+product_some (k ∷ ks) js some seen = let rest = product_some ks js some.1 seen in times_some k (k * slots.product (twice_each ks ++ js)) some.0 (times_some k (slots.product (twice_each ks ++ js)) some.0 rest)
 
 all_own-map : (p : Parts) (fs : List Factor) → model.all_own (map (factor_of p) fs) ≡ all_own fs
 all_own-map p [] = refl
@@ -143,8 +143,8 @@ module _ (p : Parts) (known : IsModel p) where
       let P : ℕ → Type 0 = λ k. IsIndependentOf f.func k in
       let value : (y : List ℕ) → theory.IsPoint (sizes_of p.variables) y → get_or (point_of p y [] []) j 0 ≡ get_or y i 0 = λ y there.
       ap (λ (k : ℕ). get_or (point_of p y [] []) k 0) e
-      ∙ even_at (padded n y) (padded n []) (padded (length p.sights) []) i (length-padded n y ∙ sym (length-padded n [])) (let count = length-padded n y in omega (arith, count, within))
-      ∙ ap (λ (l : List ℕ). get_or l i 0) (ap (λ (c : ℕ). padded c y) (sym (length-sizes_of p.variables)) ∙ padded-whole (sizes_of p.variables) y there) in
+      ∙ even_at (first_numbers n y) (first_numbers n []) (first_numbers (length p.sights) []) i (length-padded n y ∙ sym (length-padded n [])) (let count = length-padded n y in omega (arith, count, within))
+      ∙ ap (λ (l : List ℕ). get_or l i 0) (ap (λ (c : ℕ). first_numbers c y) (sym (length-sizes_of p.variables)) ∙ padded-whole (sizes_of p.variables) y there) in
       let Q : ℕ → Type 0 = λ k. get_or s k 0 ≡ get_or t k 0 in
       ⊎_elim (λ (has : Contains f.own i). inr (value s at ∙ subst Q has.2 (All-get_or Q f.own has.0 i has.1 agree) ∙ sym (value t to)))
       (λ (absent : (k : Contains f.own i) → ⊥). inl (subst P (sym e) (is.not_others i within absent)))

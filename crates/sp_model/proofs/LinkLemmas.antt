@@ -14,7 +14,7 @@ use Rattle.sp_theory.specs.Values as values
 use Rattle.sp_theory.proofs.Numbers.{sum_over-numbers, point_of-point}
 use Rattle.sp_model.specs.declared.parts.Parts.{Parts}
 use Rattle.sp_model.specs.Sizes.{AllSome}
-use Rattle.sp_model.specs.Problem.{sizes_of, shape_of, doubled, padded, in_turn, point_of, vector_of, problem}
+use Rattle.sp_model.specs.Problem.{sizes_of, shape_of, twice_each, first_numbers, in_turn, point_of, vector_of, problem}
 use Rattle.sp_model.specs.Kept.{IsModel}
 use Rattle.sp_model.specs.Links.{weights_of}
 use Rattle.sp_model.proofs.Whole.{sum_to-sum_below, pos-unsigned_abs}
@@ -28,14 +28,14 @@ product-ones [] = refl
 product-ones (j ∷ js) = let rest = product-ones js in omega (arith, rest)
 
 -- as many points of unprimed slots as states
-product-state_widths : (ks js : List ℕ) → slots.product (slots.state_widths (length ks) (doubled ks ++ js)) ≡ theory.count_of ks
+product-state_widths : (ks js : List ℕ) → slots.product (slots.state_widths (length ks) (twice_each ks ++ js)) ≡ theory.count_of ks
 product-state_widths [] js = product-ones js
 product-state_widths (k ∷ ks) js =
     let rest = product-state_widths ks js in
-    let one : 1 * slots.product (slots.state_widths (length ks) (doubled ks ++ js)) ≡ theory.count_of ks = omega (arith, rest) in
+    let one : 1 * slots.product (slots.state_widths (length ks) (twice_each ks ++ js)) ≡ theory.count_of ks = omega (arith, rest) in
     ap (λ (n : ℕ). k * n) one
 
-point_at-ones : (js : List ℕ) (k : ℕ) → slots.point_at (slots.ones js) k ≡ padded (length js) []
+point_at-ones : (js : List ℕ) (k : ℕ) → slots.point_at (slots.ones js) k ≡ first_numbers (length js) []
 point_at-ones [] k = refl
 point_at-ones (j ∷ js) k =
     let none : k / slots.product (slots.ones js) % 1 ≡ 0 = (let less = mod_below (k / slots.product (slots.ones js)) 1 (omega arith) in omega (arith, less)) in
@@ -44,11 +44,11 @@ point_at-ones (j ∷ js) k =
 
 -- the point of a state's number
 point_at-state : (ks js : List ℕ) (k : ℕ) → AllSome ks → k < theory.count_of ks
-    → slots.point_at (slots.state_widths (length ks) (doubled ks ++ js)) k ≡ in_turn (theory.point_of ks k) (padded (length ks) []) ++ padded (length js) []
+    → slots.point_at (slots.state_widths (length ks) (twice_each ks ++ js)) k ≡ in_turn (theory.point_of ks k) (first_numbers (length ks) []) ++ first_numbers (length js) []
 unfolding theory.point_of
 point_at-state [] js k some less = point_at-ones js k
 point_at-state (n ∷ ks) js k some less =
-    let ws = slots.state_widths (length ks) (doubled ks ++ js) in
+    let ws = slots.state_widths (length ks) (twice_each ks ++ js) in
     let c = theory.count_of ks in
     let states = product-state_widths ks js in
     let have : 0 < c = count_of-some ks some.1 in
@@ -69,11 +69,11 @@ module _ (p : Parts) (known : IsModel p) where
       let ks = sizes_of p.variables in
       let js = sizes_of p.sights in
       let s = theory.point_of ks k in
-      ap (λ (n : ℕ). slots.point_at (slots.state_widths n (doubled ks ++ js)) k) (sym (length-sizes_of p.variables))
+      ap (λ (n : ℕ). slots.point_at (slots.state_widths n (twice_each ks ++ js)) k) (sym (length-sizes_of p.variables))
       ∙ point_at-state ks js k (some_sizes p.variables known.variables) less
-      ∙ ap (λ (l : List ℕ). in_turn l (padded (length ks) []) ++ padded (length js) []) (sym (padded-whole ks s (point_of-point ks k less)))
-      ∙ ap (λ (n : ℕ). in_turn (padded n s) (padded n []) ++ padded (length js) []) (length-sizes_of p.variables)
-      ∙ ap (λ (n : ℕ). in_turn (padded (length p.variables) s) (padded (length p.variables) []) ++ padded n []) (length-sizes_of p.sights)
+      ∙ ap (λ (l : List ℕ). in_turn l (first_numbers (length ks) []) ++ first_numbers (length js) []) (sym (padded-whole ks s (point_of-point ks k less)))
+      ∙ ap (λ (n : ℕ). in_turn (first_numbers n s) (first_numbers n []) ++ first_numbers (length js) []) (length-sizes_of p.variables)
+      ∙ ap (λ (n : ℕ). in_turn (first_numbers (length p.variables) s) (first_numbers (length p.variables) []) ++ first_numbers n []) (length-sizes_of p.sights)
 
   pub state_dot-dot : (w f : Func) → w.shape ≡ shape_of p → f.shape ≡ shape_of p → Everywhere w (λ v. pos 0 ≤ℤ v) → state_dot w f ≡ values.dot (problem p) (weights_of p w) (vector_of p f)
   unfolding problem values.dot

@@ -13,7 +13,7 @@ use Rattle.sp_theory.specs.Model.{least_reward, greatest_reward, least_return, t
 use Rattle.sp_theory.proofs.Range.{least_reward_is, greatest_reward_is}
 use Rattle.sp_model.specs.declared.parts.Parts.{Parts}
 use Rattle.sp_model.specs.declared.parts.ActionPart.{ActionPart}
-use Rattle.sp_model.specs.Problem.{sizes_of, shape_of, padded, in_turn, point_of, problem, action_of, reward_of, no_action}
+use Rattle.sp_model.specs.Problem.{sizes_of, shape_of, first_numbers, in_turn, point_of, problem, action_of, reward_of, no_action}
 use Rattle.sp_model.specs.Rewards.{reward_in, IsLeastReward, IsGreatestReward}
 use Rattle.sp_model.specs.Kept.{IsAction, IsModel}
 use Rattle.sp_model.proofs.SlotPoints.{Fits-point, Fits-none, padded-whole, length-point, length-in_turn, split, seen_free}
@@ -86,17 +86,17 @@ module _ (p : Parts) (known : IsModel p) where
       let P : List ℕ → Type 0 = λ y. IsPointOf (reward_of p a) y in
       let long : length front ≡ 2 * length p.variables =
       length-in_turn parts.state parts.next (length-point ks parts.state parts.at ∙ sym (length-point ks parts.next parts.to)) ∙ ap (λ (c : ℕ). 2 * c) (length-point ks parts.state parts.at ∙ length-sizes_of p.variables) in
-      let whole : (y : List ℕ) → theory.IsPoint ks y → padded (length p.variables) y ≡ y = λ y to. ap (λ (c : ℕ). padded c y) (sym (length-sizes_of p.variables)) ∙ padded-whole ks y to in
-      let same : point_of p parts.state parts.next [] ≡ front ++ padded (length p.sights) [] =
-      ap (λ (y : List ℕ). in_turn y (padded (length p.variables) parts.next) ++ padded (length p.sights) []) (whole parts.state parts.at)
-      ∙ ap (λ (y : List ℕ). in_turn parts.state y ++ padded (length p.sights) []) (whole parts.next parts.to) in
+      let whole : (y : List ℕ) → theory.IsPoint ks y → first_numbers (length p.variables) y ≡ y = λ y to. ap (λ (c : ℕ). first_numbers c y) (sym (length-sizes_of p.variables)) ∙ padded-whole ks y to in
+      let same : point_of p parts.state parts.next [] ≡ front ++ first_numbers (length p.sights) [] =
+      ap (λ (y : List ℕ). in_turn y (first_numbers (length p.variables) parts.next) ++ first_numbers (length p.sights) []) (whole parts.state parts.at)
+      ∙ ap (λ (y : List ℕ). in_turn parts.state y ++ first_numbers (length p.sights) []) (whole parts.next parts.to) in
       let free : (j : ℕ) → 2 * length p.variables + j < length (reward_of p a).shape.sizes → _ = λ j less. act.reward.not_seen j (let e = ap (λ (c : Shape). length c.sizes) act.reward.shape in omega (arith, less, e)) in (
         parts.state,
         parts.next,
         parts.at,
         parts.to,
         ap (value_of (reward_of p a)) same
-            ∙ seen_free (reward_of p a) (length p.variables) front (padded (length p.sights) []) parts.seen long
+            ∙ seen_free (reward_of p a) (length p.variables) front (first_numbers (length p.sights) []) parts.seen long
             (subst P same (reward_point a h _ (state_point parts.state parts.next parts.at parts.to))) (subst P (sym parts.whole) at) free
             ∙ ap (value_of (reward_of p a)) parts.whole,
       )

@@ -8,7 +8,7 @@ use Rattle.sp_model.specs.declared.parts.Decl.{Decl}
 use Rattle.sp_model.specs.declared.parts.Factor.{Factor}
 use Rattle.sp_model.specs.declared.parts.ActionPart.{ActionPart}
 use Rattle.sp_model.specs.declared.parts.Parts.{Parts}
-use Rattle.sp_model.specs.Words.{IsName, IsValueName}
+use Rattle.sp_model.specs.Words.{IsModelName, IsValueName}
 use Rattle.sp_theory.specs.Model.{least_return, top}
 use Rattle.sp_model.specs.Problem.{sizes_of, shape_of, no_func, problem}
 
@@ -17,7 +17,7 @@ AreDifferent names = AllPairs (λ x y. x ≢ y) names
 
 -- a declaration: a name, and 1 to 64 values of different names
 pub record IsDecl (d : Decl) : Type 0 where
-  pub name : IsName d.name
+  pub name : IsModelName d.name
   pub some : 0 < length d.values
   pub few : length d.values ≤ 64
   pub values : All IsValueName d.values
@@ -28,7 +28,7 @@ abbrev pub IsProbability : Func → Type 0
 IsProbability f = Everywhere f (λ v. (pos 0 ≤ℤ v) × (v ≤ℤ pos ticks))
 
 -- the table of variable i: of unprimed variables, of the primed ones up to its own, and its rows sum to one
-pub record IsMove (s : Shape) (i : ℕ) (f : Func) : Type 0 where
+pub record IsTransitionTable (s : Shape) (i : ℕ) (f : Func) : Type 0 where
   pub shape : f.shape ≡ s
   pub probability : IsProbability f
   pub row : IsRow f (2 * i + 1)
@@ -54,10 +54,10 @@ pub record IsReward (s : Shape) (f : Func) : Type 0 where
   pub not_seen : (j : ℕ) → 2 * s.variables + j < length s.sizes → IsIndependentOf f (2 * s.variables + j)
 
 pub record IsAction (s : Shape) (a : ActionPart) : Type 0 where
-  pub name : IsName a.name
+  pub name : IsModelName a.name
   pub reward : IsReward s a.reward
   pub move_count : length a.moves ≡ s.variables
-  pub moves : (i : ℕ) → i < s.variables → IsMove s i (slice_index_or a.moves i no_func)
+  pub moves : (i : ℕ) → i < s.variables → IsTransitionTable s i (slice_index_or a.moves i no_func)
   pub sight_count : 2 * s.variables + length a.sight ≡ length s.sizes
   pub sights : (j : ℕ) → j < length a.sight → IsSight s j (slice_index_or a.sight j no_func)
 
@@ -67,15 +67,15 @@ summed_out_own f [] = f
 summed_out_own f (i ∷ own) = summed_out (summed_out_own f own) (2 * i)
 
 -- the numbers rise
-abbrev pub Rises : List ℕ → Type 0
-Rises own = AllPairs (λ i j. i < j) own
+abbrev pub NumbersRise : List ℕ → Type 0
+NumbersRise own = AllPairs (λ i j. i < j) own
 
 -- a factor of the initial belief: a function of its own variables alone that sums to one over them
 pub record IsFactor (s : Shape) (f : Factor) : Type 0 where
   pub shape : f.func.shape ≡ s
   pub probability : IsProbability f.func
   pub within : All (λ i. i < s.variables) f.own
-  pub rises : Rises f.own
+  pub rises : NumbersRise f.own
   pub whole : Everywhere (summed_out_own f.func f.own) (λ v. v ≡ pos ticks)
   pub not_others : (i : ℕ) → i < s.variables → ((k : Contains f.own i) → ⊥) → IsIndependentOf f.func (2 * i)
   pub not_primed : (i : ℕ) → i < s.variables → IsIndependentOf f.func (2 * i + 1)
@@ -111,7 +111,7 @@ pub record IsModel (p : Parts) : Type 0 where
   pub every : (i : ℕ) → i < length p.variables → Contains (all_own p.init) i
 
 -- what is kept beside the parts: how many states and joint observations there are, and the range of the returns
-pub record IsKept (p : Parts) (state_total joint_total : ℕ) (least_worth greatest_worth : ℤ) : Type 0 where
+pub record IsKeptBeside (p : Parts) (state_total joint_total : ℕ) (least_worth greatest_worth : ℤ) : Type 0 where
   pub model : IsModel p
   pub states : state_total ≡ count_of (sizes_of p.variables)
   pub joints : joint_total ≡ count_of (sizes_of p.sights)

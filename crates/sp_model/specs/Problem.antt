@@ -13,20 +13,20 @@ abbrev pub sizes_of : List Decl → List ℕ
 sizes_of ds = map (λ d. length d.values) ds
 
 -- each number twice
-abbrev pub doubled : List ℕ → List ℕ
-doubled [] = []
-doubled (n ∷ ns) = n ∷ n ∷ doubled ns
+abbrev pub twice_each : List ℕ → List ℕ
+twice_each [] = []
+twice_each (n ∷ ns) = n ∷ n ∷ twice_each ns
 
 -- two slots for each variable, unprimed and primed, and one for each observation variable
 abbrev pub shape_of : Parts → Shape
-shape_of p = record { sizes = doubled (sizes_of p.variables) ++ sizes_of p.sights; variables = length p.variables }
+shape_of p = record { sizes = twice_each (sizes_of p.variables) ++ sizes_of p.sights; variables = length p.variables }
 
 -- ---- points
 -- the first n numbers, with zeros where there are fewer
-abbrev pub padded : ℕ → List ℕ → List ℕ
-padded zero xs = []
-padded (suc n) [] = 0 ∷ padded n []
-padded (suc n) (x ∷ xs) = x ∷ padded n xs
+abbrev pub first_numbers : ℕ → List ℕ → List ℕ
+first_numbers zero xs = []
+first_numbers (suc n) [] = 0 ∷ first_numbers n []
+first_numbers (suc n) (x ∷ xs) = x ∷ first_numbers n xs
 
 -- the numbers of two lists in turn
 abbrev pub in_turn : List ℕ → List ℕ → List ℕ
@@ -36,7 +36,7 @@ in_turn (x ∷ xs) (y ∷ ys) = x ∷ y ∷ in_turn xs ys
 
 -- the point of a state, a next state and observed values; what isn't given is the first value
 abbrev pub point_of : Parts → List ℕ → List ℕ → List ℕ → List ℕ
-point_of p state next seen = in_turn (padded (length p.variables) state) (padded (length p.variables) next) ++ padded (length p.sights) seen
+point_of p state next seen = in_turn (first_numbers (length p.variables) state) (first_numbers (length p.variables) next) ++ first_numbers (length p.sights) seen
 
 -- ---- functions
 -- what stands past the end of a list: the function that is 0, and parts without names

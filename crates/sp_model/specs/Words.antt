@@ -28,7 +28,7 @@ BeginsName [] = ⊥
 BeginsName (b ∷ bytes) = IsTrue (is_first_byte b)
 
 -- the name of a variable or an action: a word that begins with a letter or '_' and isn't a keyword
-pub record IsName (word : List ℕ) : Type 0 where
+pub record IsModelName (word : List ℕ) : Type 0 where
   pub value : IsValueName word
   pub begins : BeginsName word
   pub free : All (λ keyword. word ≢ keyword) keywords

@@ -27,13 +27,13 @@ pub struct Model {
 
 impl marker::Model for Model {
     ghost use Rattle.sp_model.specs.declared.parts.Parts.{Parts};
-    ghost use Rattle.sp_model.specs.Kept.{IsKept};
+    ghost use Rattle.sp_model.specs.Kept.{IsKeptBeside};
 
     ghost Value = { Parts };
 
     ghost view = { λ m. m.parts };
 
-    ghost invariant = { λ m. IsKept m.parts m.states m.joints m.least_return m.top };
+    ghost invariant = { λ m. IsKeptBeside m.parts m.states m.joints m.least_return m.top };
 }
 
 impl Model {

@@ -6,7 +6,7 @@ abbrev pub IfTold : Option (List ℕ) → (List ℕ → Type 0) → Type 0
 IfTold told P = (bytes : List ℕ) → told ≡ Some bytes → P bytes
 
 -- the first n bytes of the buffer are the content's from there on, and none come only at its end
-pub record Reads (content : Option (List ℕ)) (at n : ℕ) (buffer : List ℕ) : Type 0 where
+pub record ReadsBytes (content : Option (List ℕ)) (at n : ℕ) (buffer : List ℕ) : Type 0 where
   pub bytes : IfTold content (λ bytes. take n buffer ≡ take n (drop at bytes))
   pub at_end : IfTold content (λ bytes. 0 < length buffer → (n ≡ 0 ↔ length bytes ≤ at))
 

@@ -7,7 +7,7 @@ pub record Folder : Type 0 where
   pub faults : List ℕ → ℕ
 
 -- no content has changed, and no count has fallen
-pub record IsLater (before now : Folder) : Type 0 where
+pub record IsLaterFolder (before now : Folder) : Type 0 where
   pub content : (name : List ℕ) → now.content name ≡ before.content name
   pub faults : (name : List ℕ) → before.faults name ≤ now.faults name
 

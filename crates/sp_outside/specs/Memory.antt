@@ -3,7 +3,7 @@ use Rattle.std.specs.Prelude.{◌≡◌, ◌⊎◌, ℕ, ◌-◌, List, ◌++◌
 use Rattle.sp_outside.specs.Counts.{next_count}
 use Rattle.sp_outside.specs.Files.{File, content_of}
 use Rattle.sp_outside.specs.Folder.{Folder}
-use Rattle.sp_outside.specs.Written.{Written}
+use Rattle.sp_outside.specs.Written.{WrittenBytes}
 
 -- a store's files, the numbers of the reads that fail, and how many reads there were and failed
 pub record StoreState : Type 0 where
@@ -40,7 +40,7 @@ pub record SinkState : Type 0 where
   pub faults : ℕ
 
 -- the sink tells its bytes
-abbrev pub written_of : SinkState → Written
+abbrev pub written_of : SinkState → WrittenBytes
 written_of sink = record { bytes = Some sink.bytes; faults = sink.faults }
 
 -- the sink after a write of a piece, which is counted

@@ -1,9 +1,9 @@
 //! A store and a sink in memory, whose calls fail where they are told to.
 
 ghost use Rattle.std.specs.Prelude.{◌≡◌, ◌≤◌, ◌<◌, ◌↔◌, ◌-◌, ℕ, [], length, min, take, Contains, IfOk, IsErr, OnErr};
-ghost use Rattle.sp_outside.specs.Bytes.{Appended, Reads};
+ghost use Rattle.sp_outside.specs.Bytes.{Appended, ReadsBytes};
 ghost use Rattle.sp_outside.specs.Counts.{HasCause, next_count};
-ghost use Rattle.sp_outside.specs.Folder.{IsLater};
+ghost use Rattle.sp_outside.specs.Folder.{IsLaterFolder};
 ghost use Rattle.sp_outside.specs.Memory.{GivesAll, ReadFails, folder_of, read_from, written_of, written_to};
 
 use crate::{Failed, Files, Sink, Store};
@@ -53,8 +53,8 @@ impl Store for MemStore {
 
     fn read_at(&mut self, name: &str, at: u64, buf: &mut [u8]) -> Result<usize, Failed>
         ensures bound { IfOk result (λ n. n ≤ length buf.new) }
-        ensures reads { IfOk result (λ n. Reads ((folder_of self.old).content name.now) at n buf.new) }
-        ensures later { IsLater (folder_of self.old) (folder_of self.new) }
+        ensures reads { IfOk result (λ n. ReadsBytes ((folder_of self.old).content name.now) at n buf.new) }
+        ensures later { IsLaterFolder (folder_of self.old) (folder_of self.new) }
         ensures cause { HasCause self.old.faults self.new.faults result }
 
         ensures fails { IsErr result ↔ ReadFails self.old name.now }
@@ -76,7 +76,7 @@ impl Store for MemStore {
 fn copy_from(bytes: &[u8], at: u64, buf: &mut [u8]) -> usize
     ensures bound { result ≤ length buf.new }
     ensures count { result ≡ min (length buf.old) (length bytes.now - at) }
-    ensures reads { Reads (Some bytes.now) at result buf.new }
+    ensures reads { ReadsBytes (Some bytes.now) at result buf.new }
 {
     if at >= bytes.len() as u64 {
         return 0;

@@ -3,13 +3,13 @@
 ghost use Rattle.std.specs.Prelude.{◌≡◌, ◌<◌, ◌≤◌, length, take, IfOk, OnOk, OnErr};
 ghost use Rattle.sp_outside.specs.Bytes.{Appended, AppendedPart};
 ghost use Rattle.sp_outside.specs.Counts.{HasCause};
-ghost use Rattle.sp_outside.specs.Written.{Written};
+ghost use Rattle.sp_outside.specs.Written.{WrittenBytes};
 
 use crate::Failed;
 
 /// A place that bytes are written to.
 pub trait Sink {
-    ghost written: { Self → Written };
+    ghost written: { Self → WrittenBytes };
 
     /// Writes the first bytes of the piece, and says how many; of a piece that isn't empty at least one.
     fn write(&mut self, piece: &[u8]) -> Result<usize, Failed>

@@ -1,9 +1,9 @@
 //! Named content that is read.
 
 ghost use Rattle.std.specs.Prelude.{◌≡◌, ◌≢◌, ℕ, ◌+◌, ◌<◌, ◌≤◌, length, vec_len, IfOk};
-ghost use Rattle.sp_outside.specs.Bytes.{IfTold, IsFront, Reads};
+ghost use Rattle.sp_outside.specs.Bytes.{IfTold, IsFront, ReadsBytes};
 ghost use Rattle.sp_outside.specs.Counts.{HasCause, Rose};
-ghost use Rattle.sp_outside.specs.Folder.{Folder, IsLater};
+ghost use Rattle.sp_outside.specs.Folder.{Folder, IsLaterFolder};
 
 use crate::Failed;
 use std::alloc::{AllocError, Global};
@@ -16,8 +16,8 @@ pub trait Store {
     /// Reads bytes of a name's content from `at` on to the front of the buffer, and says how many; none only at the end.
     fn read_at(&mut self, name: &str, at: u64, buf: &mut [u8]) -> Result<usize, Failed>
         ensures bound { IfOk result (λ n. n ≤ length buf.new) }
-        ensures reads { IfOk result (λ n. Reads ((folder self.old).content name.now) at n buf.new) }
-        ensures later { IsLater (folder self.old) (folder self.new) }
+        ensures reads { IfOk result (λ n. ReadsBytes ((folder self.old).content name.now) at n buf.new) }
+        ensures later { IsLaterFolder (folder self.old) (folder self.new) }
         ensures cause { HasCause ((folder self.old).faults name.now) ((folder self.new).faults name.now) result };
 }
 
@@ -78,7 +78,7 @@ pub fn read_whole<S: Store>(
 
     ensures failed { result ≡ Err ReadError.Failed →
         Rose ((S.folder store.old).faults name.now) ((S.folder store.new).faults name.now) }
-    ensures later { IsLater (S.folder store.old) (S.folder store.new) }
+    ensures later { IsLaterFolder (S.folder store.old) (S.folder store.new) }
 {
     let mut content = Vec::new(alloc);
     let mut block = fresh_block(alloc)?;
@@ -115,7 +115,7 @@ fn read_more<S: Store>(
     ensures not_long { (n : ℕ) → result ≢ Err (ReadError.TooLong n) }
     ensures failed { result ≡ Err ReadError.Failed →
         Rose ((S.folder store.old).faults name.now) ((S.folder store.new).faults name.now) }
-    ensures later { IsLater (S.folder store.old) (S.folder store.new) }
+    ensures later { IsLaterFolder (S.folder store.old) (S.folder store.new) }
 {
     let count = store.read_at(name, front.len() as u64, block.as_mut_slice())?;
     front.extend_from_slice(&block.as_slice()[..count])?;

@@ -1,9 +1,9 @@
 //! The files and the writers of the system. What they read and write isn't told to contracts.
 
 ghost use Rattle.std.specs.Prelude.{◌≡◌, ◌≤◌, ◌<◌, length, take, IfOk, OnErr, is_ok, if◌then◌else◌};
-ghost use Rattle.sp_outside.specs.Bytes.{Appended, Reads};
+ghost use Rattle.sp_outside.specs.Bytes.{Appended, ReadsBytes};
 ghost use Rattle.sp_outside.specs.Counts.{HasCause, next_count};
-ghost use Rattle.sp_outside.specs.Folder.{IsLater, untold_folder};
+ghost use Rattle.sp_outside.specs.Folder.{IsLaterFolder, untold_folder};
 ghost use Rattle.sp_outside.specs.Written.{untold_bytes};
 
 use crate::{Failed, Sink, Store};
@@ -56,8 +56,8 @@ impl<R: rt::Files + AllocGlobal> Store for DirStore<'_, R> {
 
     fn read_at(&mut self, name: &str, at: u64, buf: &mut [u8]) -> Result<usize, Failed>
         ensures bound { IfOk result (λ n. n ≤ length buf.new) }
-        ensures reads { IfOk result (λ n. Reads ((untold_folder self.old).content name.now) at n buf.new) }
-        ensures later { IsLater (untold_folder self.old) (untold_folder self.new) }
+        ensures reads { IfOk result (λ n. ReadsBytes ((untold_folder self.old).content name.now) at n buf.new) }
+        ensures later { IsLaterFolder (untold_folder self.old) (untold_folder self.new) }
         ensures cause { HasCause self.old self.new result }
 
         ensures counted { self.new ≡ (if is_ok result then self.old else next_count self.old) }

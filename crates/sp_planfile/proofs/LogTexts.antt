@@ -6,7 +6,7 @@ use Rattle.std.proofs.lemmas.List.Elements.{recursion_from_All}
 use Rattle.std.proofs.lemmas.Bool.{false≢true}
 use Rattle.sp_theory.specs.Logs.{Entry, told, act, observe, unseen, closing, Log}
 use Rattle.sp_model.specs.Words.{is_word_byte}
-use Rattle.sp_lines.specs.Lines.{spaced, lines_of, Lacks, IsSmall}
+use Rattle.sp_lines.specs.Lines.{numbers_behind_spaces, lines_of, Lacks, IsSmall}
 use Rattle.sp_planfile.specs.PlanText.{entry_line, log_text, logs_text}
 use Rattle.sp_planfile.specs.Form.{IsEntryInForm, HasSmallNumbers, IsLogInForm, IsSessionName}
 use Rattle.sp_planfile.proofs.Sections.{cut_at, lacks-append, behind_same}
@@ -20,42 +20,42 @@ entry_small actions joint (unseen o) few less form = (omega (arith, form, less),
 entry_small actions joint (closing e id a) few less form = (form.0, (form.1, (omega (arith, form.2, few), tt)))
 
 pub entry_lacks : (x : Entry) → HasSmallNumbers x → Lacks 10 (entry_line x)
-entry_lacks (told e) small = lacks-append 10 (codes "told") (spaced (e ∷ [])) (letters (codes "told") (omega arith, (omega arith, (omega arith, (omega arith, tt))))) (spaced_lacks (e ∷ []) small)
-entry_lacks (act e id a) small = lacks-append 10 (codes "act") (spaced (e ∷ id ∷ a ∷ [])) (letters (codes "act") (omega arith, (omega arith, (omega arith, tt)))) (spaced_lacks (e ∷ id ∷ a ∷ []) small)
-entry_lacks (observe o) small = lacks-append 10 (codes "observe") (spaced (o ∷ [])) (letters (codes "observe") (omega arith, (omega arith, (omega arith, (omega arith, (omega arith, (omega arith, (omega arith, tt)))))))) (spaced_lacks (o ∷ []) small)
-entry_lacks (unseen o) small = lacks-append 10 (codes "unseen") (spaced (o ∷ [])) (letters (codes "unseen") (omega arith, (omega arith, (omega arith, (omega arith, (omega arith, (omega arith, tt))))))) (spaced_lacks (o ∷ []) small)
-entry_lacks (closing e id a) small = lacks-append 10 (codes "closing") (spaced (e ∷ id ∷ a ∷ [])) (letters (codes "closing") (omega arith, (omega arith, (omega arith, (omega arith, (omega arith, (omega arith, (omega arith, tt)))))))) (spaced_lacks (e ∷ id ∷ a ∷ []) small)
+entry_lacks (told e) small = lacks-append 10 (codes "told") (numbers_behind_spaces (e ∷ [])) (letters (codes "told") (omega arith, (omega arith, (omega arith, (omega arith, tt))))) (spaced_lacks (e ∷ []) small)
+entry_lacks (act e id a) small = lacks-append 10 (codes "act") (numbers_behind_spaces (e ∷ id ∷ a ∷ [])) (letters (codes "act") (omega arith, (omega arith, (omega arith, tt)))) (spaced_lacks (e ∷ id ∷ a ∷ []) small)
+entry_lacks (observe o) small = lacks-append 10 (codes "observe") (numbers_behind_spaces (o ∷ [])) (letters (codes "observe") (omega arith, (omega arith, (omega arith, (omega arith, (omega arith, (omega arith, (omega arith, tt)))))))) (spaced_lacks (o ∷ []) small)
+entry_lacks (unseen o) small = lacks-append 10 (codes "unseen") (numbers_behind_spaces (o ∷ [])) (letters (codes "unseen") (omega arith, (omega arith, (omega arith, (omega arith, (omega arith, (omega arith, tt))))))) (spaced_lacks (o ∷ []) small)
+entry_lacks (closing e id a) small = lacks-append 10 (codes "closing") (numbers_behind_spaces (e ∷ id ∷ a ∷ [])) (letters (codes "closing") (omega arith, (omega arith, (omega arith, (omega arith, (omega arith, (omega arith, (omega arith, tt)))))))) (spaced_lacks (e ∷ id ∷ a ∷ []) small)
 
 -- what begins otherwise is different
 pub apart : (x y : List ℕ) → x ≡ y → get_or x 0 0 ≢ get_or y 0 0 → ⊥
 apart x y e other = other (ap (λ l. get_or l 0 0) e)
 
 pub entry_tells : (x y : Entry) → HasSmallNumbers x → HasSmallNumbers y → entry_line x ≡ entry_line y → x ≡ y
-entry_tells (told e) (told f) a b same = let all = spaced_tells (e ∷ []) (f ∷ []) a b (behind_same (codes "told") (spaced (e ∷ [])) (spaced (f ∷ [])) same) in cc all
+entry_tells (told e) (told f) a b same = let all = spaced_tells (e ∷ []) (f ∷ []) a b (behind_same (codes "told") (numbers_behind_spaces (e ∷ [])) (numbers_behind_spaces (f ∷ [])) same) in cc all
 entry_tells (told e) (act f id y) a b same = absurd (apart (entry_line (told e)) (entry_line (act f id y)) same (λ e. omega (arith, e)))
 entry_tells (told e) (observe o) a b same = absurd (apart (entry_line (told e)) (entry_line (observe o)) same (λ e. omega (arith, e)))
 entry_tells (told e) (unseen o) a b same = absurd (apart (entry_line (told e)) (entry_line (unseen o)) same (λ e. omega (arith, e)))
 entry_tells (told e) (closing f id y) a b same = absurd (apart (entry_line (told e)) (entry_line (closing f id y)) same (λ e. omega (arith, e)))
 entry_tells (act e id x) (told f) a b same = absurd (apart (entry_line (act e id x)) (entry_line (told f)) same (λ e. omega (arith, e)))
-entry_tells (act e id x) (act f jd y) a b same = let all = spaced_tells (e ∷ id ∷ x ∷ []) (f ∷ jd ∷ y ∷ []) a b (behind_same (codes "act") (spaced (e ∷ id ∷ x ∷ [])) (spaced (f ∷ jd ∷ y ∷ [])) same) in cc all
+entry_tells (act e id x) (act f jd y) a b same = let all = spaced_tells (e ∷ id ∷ x ∷ []) (f ∷ jd ∷ y ∷ []) a b (behind_same (codes "act") (numbers_behind_spaces (e ∷ id ∷ x ∷ [])) (numbers_behind_spaces (f ∷ jd ∷ y ∷ [])) same) in cc all
 entry_tells (act e id x) (observe o) a b same = absurd (apart (entry_line (act e id x)) (entry_line (observe o)) same (λ e. omega (arith, e)))
 entry_tells (act e id x) (unseen o) a b same = absurd (apart (entry_line (act e id x)) (entry_line (unseen o)) same (λ e. omega (arith, e)))
 entry_tells (act e id x) (closing f jd y) a b same = absurd (apart (entry_line (act e id x)) (entry_line (closing f jd y)) same (λ e. omega (arith, e)))
 entry_tells (observe o) (told f) a b same = absurd (apart (entry_line (observe o)) (entry_line (told f)) same (λ e. omega (arith, e)))
 entry_tells (observe o) (act f id y) a b same = absurd (apart (entry_line (observe o)) (entry_line (act f id y)) same (λ e. omega (arith, e)))
-entry_tells (observe o) (observe p) a b same = let all = spaced_tells (o ∷ []) (p ∷ []) a b (behind_same (codes "observe") (spaced (o ∷ [])) (spaced (p ∷ [])) same) in cc all
+entry_tells (observe o) (observe p) a b same = let all = spaced_tells (o ∷ []) (p ∷ []) a b (behind_same (codes "observe") (numbers_behind_spaces (o ∷ [])) (numbers_behind_spaces (p ∷ [])) same) in cc all
 entry_tells (observe o) (unseen p) a b same = absurd (apart (entry_line (observe o)) (entry_line (unseen p)) same (λ e. omega (arith, e)))
 entry_tells (observe o) (closing f id y) a b same = absurd (apart (entry_line (observe o)) (entry_line (closing f id y)) same (λ e. omega (arith, e)))
 entry_tells (unseen o) (told f) a b same = absurd (apart (entry_line (unseen o)) (entry_line (told f)) same (λ e. omega (arith, e)))
 entry_tells (unseen o) (act f id y) a b same = absurd (apart (entry_line (unseen o)) (entry_line (act f id y)) same (λ e. omega (arith, e)))
 entry_tells (unseen o) (observe p) a b same = absurd (apart (entry_line (unseen o)) (entry_line (observe p)) same (λ e. omega (arith, e)))
-entry_tells (unseen o) (unseen p) a b same = let all = spaced_tells (o ∷ []) (p ∷ []) a b (behind_same (codes "unseen") (spaced (o ∷ [])) (spaced (p ∷ [])) same) in cc all
+entry_tells (unseen o) (unseen p) a b same = let all = spaced_tells (o ∷ []) (p ∷ []) a b (behind_same (codes "unseen") (numbers_behind_spaces (o ∷ [])) (numbers_behind_spaces (p ∷ [])) same) in cc all
 entry_tells (unseen o) (closing f id y) a b same = absurd (apart (entry_line (unseen o)) (entry_line (closing f id y)) same (λ e. omega (arith, e)))
 entry_tells (closing e id x) (told f) a b same = absurd (apart (entry_line (closing e id x)) (entry_line (told f)) same (λ e. omega (arith, e)))
 entry_tells (closing e id x) (act f jd y) a b same = absurd (apart (entry_line (closing e id x)) (entry_line (act f jd y)) same (λ e. omega (arith, e)))
 entry_tells (closing e id x) (observe o) a b same = absurd (apart (entry_line (closing e id x)) (entry_line (observe o)) same (λ e. omega (arith, e)))
 entry_tells (closing e id x) (unseen o) a b same = absurd (apart (entry_line (closing e id x)) (entry_line (unseen o)) same (λ e. omega (arith, e)))
-entry_tells (closing e id x) (closing f jd y) a b same = let all = spaced_tells (e ∷ id ∷ x ∷ []) (f ∷ jd ∷ y ∷ []) a b (behind_same (codes "closing") (spaced (e ∷ id ∷ x ∷ [])) (spaced (f ∷ jd ∷ y ∷ [])) same) in cc all
+entry_tells (closing e id x) (closing f jd y) a b same = let all = spaced_tells (e ∷ id ∷ x ∷ []) (f ∷ jd ∷ y ∷ []) a b (behind_same (codes "closing") (numbers_behind_spaces (e ∷ id ∷ x ∷ [])) (numbers_behind_spaces (f ∷ jd ∷ y ∷ [])) same) in cc all
 
 -- what follows a log begins with `d` or `s`, as no entry does
 abbrev pub EndsLog : List ℕ → Type 0

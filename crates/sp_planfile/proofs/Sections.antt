@@ -7,7 +7,7 @@ use Rattle.sp_theory.specs.Logs.{Entry, told, act, observe, unseen, closing, Log
 use Rattle.sp_value.specs.declared.tasks.Explore.{Explore}
 use Rattle.sp_value.specs.declared.tasks.Explore.TheVariants.{Uniform, Sweep}
 use Rattle.sp_value.specs.declared.tasks.Options.{Options}
-use Rattle.sp_lines.specs.Lines.{spaced, lines_of, Lacks, IsSmall}
+use Rattle.sp_lines.specs.Lines.{numbers_behind_spaces, lines_of, Lacks, IsSmall}
 use Rattle.sp_lines.proofs.Digits.{number_told, decimal_lacks}
 use Rattle.sp_planfile.specs.PlanText.{head_text, explore_word, prune_word, options_line, count_line}
 use Rattle.sp_planfile.specs.Form.{IsModelLine, AreModelLines}
@@ -86,7 +86,7 @@ spaced_told m n us vs x y a b low less e =
 
 pub count_told : (word : List ℕ) (m n : ℕ) (us vs : List ℕ) → IsSmall m → IsSmall n → count_line word m ++ (10 ∷ us) ≡ count_line word n ++ (10 ∷ vs) → (m ≡ n) × (us ≡ vs)
 count_told word m n us vs a b e =
-    let left : count_line word m ++ (10 ∷ us) ≡ word ++ (32 ∷ (decimal m ++ (10 ∷ us))) = append_assoc word (spaced (m ∷ [])) (10 ∷ us) ∙ ap (λ l. word ++ (32 ∷ l)) (append_assoc (decimal m) [] (10 ∷ us)) in
-    let right : count_line word n ++ (10 ∷ vs) ≡ word ++ (32 ∷ (decimal n ++ (10 ∷ vs))) = append_assoc word (spaced (n ∷ [])) (10 ∷ vs) ∙ ap (λ l. word ++ (32 ∷ l)) (append_assoc (decimal n) [] (10 ∷ vs)) in
+    let left : count_line word m ++ (10 ∷ us) ≡ word ++ (32 ∷ (decimal m ++ (10 ∷ us))) = append_assoc word (numbers_behind_spaces (m ∷ [])) (10 ∷ us) ∙ ap (λ l. word ++ (32 ∷ l)) (append_assoc (decimal m) [] (10 ∷ us)) in
+    let right : count_line word n ++ (10 ∷ vs) ≡ word ++ (32 ∷ (decimal n ++ (10 ∷ vs))) = append_assoc word (numbers_behind_spaces (n ∷ [])) (10 ∷ vs) ∙ ap (λ l. word ++ (32 ∷ l)) (append_assoc (decimal n) [] (10 ∷ vs)) in
     let numbers = spaced_told m n us vs 10 10 a b (omega arith) (omega arith) (behind_same word (32 ∷ (decimal m ++ (10 ∷ us))) (32 ∷ (decimal n ++ (10 ∷ vs))) (sym left ∙ e ∙ right)) in
     (numbers.0, cc (numbers.1))

@@ -4,15 +4,15 @@ use Rattle.std.specs.List.{AllByRecursion}
 use Rattle.std.specs.Fmt.{decimal}
 use Rattle.std.proofs.lemmas.Fmt.{decimal_injective}
 use Rattle.sp_theory.specs.Book.{Event, settle, publish, prune, end}
-use Rattle.sp_lines.specs.Lines.{spaced, spaced_pairs, Lacks, IsSmall, IsSmallPair}
+use Rattle.sp_lines.specs.Lines.{numbers_behind_spaces, spaced_pairs, Lacks, IsSmall, IsSmallPair}
 use Rattle.sp_lines.proofs.Digits.{decimal_lacks}
 use Rattle.sp_planfile.specs.RunText.{event_line, HasSmall}
 use Rattle.sp_planfile.proofs.Sections.{lacks-append}
 
 -- the numbers of a line have no end of a line in them
-pub spaced_lacks : (numbers : List ℕ) → AllByRecursion IsSmall numbers → Lacks 10 (spaced numbers)
+pub spaced_lacks : (numbers : List ℕ) → AllByRecursion IsSmall numbers → Lacks 10 (numbers_behind_spaces numbers)
 spaced_lacks [] small = tt
-spaced_lacks (n ∷ numbers) small = (λ e. omega (arith, e), lacks-append 10 (decimal n) (spaced numbers) (decimal_lacks 10 n (omega arith) small.0) (spaced_lacks numbers small.1))
+spaced_lacks (n ∷ numbers) small = (λ e. omega (arith, e), lacks-append 10 (decimal n) (numbers_behind_spaces numbers) (decimal_lacks 10 n (omega arith) small.0) (spaced_lacks numbers small.1))
 
 pairs_lack : (pairs : List (ℕ × ℕ)) → AllByRecursion IsSmallPair pairs → Lacks 10 (spaced_pairs pairs)
 pairs_lack [] small = tt
@@ -28,7 +28,7 @@ letters [] all = tt
 letters (x ∷ xs) all = (λ e. let high : 10 < x = all.0 in omega (arith, e, high), letters xs all.1)
 
 pub line_lacks : (event : Event) → HasSmall event → Lacks 10 (event_line event)
-line_lacks (settle k e a links) small = lacks-append 10 (codes "settle") (spaced (k ∷ e ∷ a ∷ links)) (letters (codes "settle") (omega arith, (omega arith, (omega arith, (omega arith, (omega arith, (omega arith, tt))))))) (spaced_lacks (k ∷ e ∷ a ∷ links) small)
+line_lacks (settle k e a links) small = lacks-append 10 (codes "settle") (numbers_behind_spaces (k ∷ e ∷ a ∷ links)) (letters (codes "settle") (omega arith, (omega arith, (omega arith, (omega arith, (omega arith, (omega arith, tt))))))) (spaced_lacks (k ∷ e ∷ a ∷ links) small)
 line_lacks publish small = letters (codes "publish") (omega arith, (omega arith, (omega arith, (omega arith, (omega arith, (omega arith, (omega arith, tt)))))))
 line_lacks (prune pairs) small = lacks-append 10 (codes "prune") (spaced_pairs pairs) (letters (codes "prune") (omega arith, (omega arith, (omega arith, (omega arith, (omega arith, tt)))))) (pairs_lack pairs small)
 line_lacks end small = letters (codes "end") (omega arith, (omega arith, (omega arith, tt)))
@@ -38,7 +38,7 @@ abbrev pub Follows : List ℕ → Type 0
 Follows [] = Unit {0}
 Follows (x ∷ xs) = x ≡ 32
 
-spaced_follows : (numbers : List ℕ) → Follows (spaced numbers)
+spaced_follows : (numbers : List ℕ) → Follows (numbers_behind_spaces numbers)
 spaced_follows [] = tt
 spaced_follows (n ∷ numbers) = refl
 
@@ -64,13 +64,13 @@ number_of m n us vs a b f g e =
     let words = word_of (decimal m) (decimal n) us vs (decimal_lacks 32 m (omega arith) a) (decimal_lacks 32 n (omega arith) b) f g e in
     (decimal_injective m n a b words.0, words.1)
 
-pub spaced_tells : (xs ys : List ℕ) → AllByRecursion IsSmall xs → AllByRecursion IsSmall ys → spaced xs ≡ spaced ys → xs ≡ ys
+pub spaced_tells : (xs ys : List ℕ) → AllByRecursion IsSmall xs → AllByRecursion IsSmall ys → numbers_behind_spaces xs ≡ numbers_behind_spaces ys → xs ≡ ys
 spaced_tells [] [] a b e = refl
 spaced_tells [] (y ∷ ys) a b e = cc
 spaced_tells (x ∷ xs) [] a b e = cc
 spaced_tells (x ∷ xs) (y ∷ ys) a b e =
-    let tails : decimal x ++ spaced xs ≡ decimal y ++ spaced ys = cc in
-    let one = number_of x y (spaced xs) (spaced ys) a.0 b.0 (spaced_follows xs) (spaced_follows ys) tails in
+    let tails : decimal x ++ numbers_behind_spaces xs ≡ decimal y ++ numbers_behind_spaces ys = cc in
+    let one = number_of x y (numbers_behind_spaces xs) (numbers_behind_spaces ys) a.0 b.0 (spaced_follows xs) (spaced_follows ys) tails in
     let rest = spaced_tells xs ys a.1 b.1 one.1 in
     cc (one.0, rest)
 
@@ -92,7 +92,7 @@ differs k x y e less = omega (arith, ap (λ w. slice_index w k) e, less)
 
 pub line_tells : (event other : Event) → HasSmall event → HasSmall other → event_line event ≡ event_line other → event ≡ other
 line_tells (settle k e a links) (settle k' e' a' links') small small' same =
-    let numbers : spaced (k ∷ e ∷ a ∷ links) ≡ spaced (k' ∷ e' ∷ a' ∷ links') = cc same in
+    let numbers : numbers_behind_spaces (k ∷ e ∷ a ∷ links) ≡ numbers_behind_spaces (k' ∷ e' ∷ a' ∷ links') = cc same in
     let all = spaced_tells (k ∷ e ∷ a ∷ links) (k' ∷ e' ∷ a' ∷ links') small small' numbers in
     cc all
 line_tells (settle k e a links) publish small small' same = absurd (differs 0 (event_line publish) (event_line (settle k e a links)) (sym same) (omega arith))

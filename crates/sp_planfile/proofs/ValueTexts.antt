@@ -11,7 +11,7 @@ use Rattle.sp_show.specs.Decimals.{decimal_of, nine_digits, sign_text}
 use Rattle.sp_lines.specs.Lines.{lines_of, Lacks, IsSmall, BeginsNoDigit}
 use Rattle.sp_lines.proofs.Digits.{number_told, decimal_lacks, decimal_digits}
 use Rattle.sp_planfile.specs.PlanText.{value_line}
-use Rattle.sp_planfile.specs.Form.{IsValue}
+use Rattle.sp_planfile.specs.Form.{IsTickValue}
 use Rattle.sp_planfile.proofs.Sections.{behind_same, lacks-append}
 
 zeros_lack : (k : ℕ) → Lacks 10 (replicate k 48)
@@ -63,7 +63,7 @@ signed_is : (n : ℕ) → decimal_of (negsuc n) ≡ 45 ∷ unsigned_text (suc n)
 unfolding decimal_of unsigned_text
 signed_is n = refl
 
-decimal_tells : (y z : ℤ) → IsValue y → IsValue z → decimal_of y ≡ decimal_of z → y ≡ z
+decimal_tells : (y z : ℤ) → IsTickValue y → IsTickValue z → decimal_of y ≡ decimal_of z → y ≡ z
 decimal_tells (pos m) (pos n) a b e = ap pos (unsigned_tell m n a b (sym (unsigned_is m) ∙ e ∙ unsigned_is n))
 decimal_tells (pos m) (negsuc n) a b e = absurd (omega (arith, first_is_digit m a, ap (λ l. get_or l 0 0) (sym (unsigned_is m) ∙ e ∙ signed_is n)))
 decimal_tells (negsuc m) (pos n) a b e = absurd (omega (arith, first_is_digit n b, ap (λ l. get_or l 0 0) (sym (unsigned_is n) ∙ sym e ∙ signed_is m)))
@@ -76,12 +76,12 @@ unfolding unsigned_text
 unsigned_lacks n a = lacks-append 10 (decimal (n / 1000000000)) (46 ∷ nine_digits (n % 1000000000)) (decimal_lacks 10 (n / 1000000000) (omega arith) (omega arith))
     ((λ e. omega (arith, e)), lacks-append 10 (replicate (9 - length (decimal (n % 1000000000))) 48) (decimal (n % 1000000000)) (zeros_lack (9 - length (decimal (n % 1000000000)))) (decimal_lacks 10 (n % 1000000000) (omega arith) (omega arith)))
 
-decimal_lack : (z : ℤ) → IsValue z → Lacks 10 (decimal_of z)
+decimal_lack : (z : ℤ) → IsTickValue z → Lacks 10 (decimal_of z)
 decimal_lack (pos n) a = subst (Lacks 10) (sym (unsigned_is n)) (unsigned_lacks n a)
 decimal_lack (negsuc n) a = subst (Lacks 10) (sym (signed_is n)) ((λ e. omega (arith, e)), unsigned_lacks (suc n) a)
 
-pub value_lacks : (z : ℤ) → IsValue z → Lacks 10 (value_line z)
+pub value_lacks : (z : ℤ) → IsTickValue z → Lacks 10 (value_line z)
 value_lacks z a = lacks-append 10 (codes "value ") (decimal_of z) ((λ e. omega (arith, e)), ((λ e. omega (arith, e)), ((λ e. omega (arith, e)), ((λ e. omega (arith, e)), ((λ e. omega (arith, e)), ((λ e. omega (arith, e)), tt)))))) (decimal_lack z a)
 
-pub value_tells : (y z : ℤ) → IsValue y → IsValue z → value_line y ≡ value_line z → y ≡ z
+pub value_tells : (y z : ℤ) → IsTickValue y → IsTickValue z → value_line y ≡ value_line z → y ≡ z
 value_tells y z a b e = decimal_tells y z a b (behind_same (codes "value ") (decimal_of y) (decimal_of z) e)

@@ -7,11 +7,11 @@ use Rattle.std.proofs.lemmas.Bool.{false≢true}
 use Rattle.sp_theory.specs.Book.{Event, settle, publish, prune, end}
 use Rattle.sp_theory.specs.Logs.{Log}
 use Rattle.sp_value.specs.declared.tasks.Options.{Options}
-use Rattle.sp_lines.specs.Lines.{spaced, lines_of, Lacks, IsSmall, IsSmallPair}
+use Rattle.sp_lines.specs.Lines.{numbers_behind_spaces, lines_of, Lacks, IsSmall, IsSmallPair}
 use Rattle.sp_planfile.specs.RunText.{event_line, HasSmall}
 use Rattle.sp_planfile.specs.Contents.{Contents}
 use Rattle.sp_planfile.specs.PlanText.{head_text, options_line, belief_line, value_line, count_line, events_section, values_text, logs_section, logs_text, plan_text}
-use Rattle.sp_planfile.specs.Form.{IsInForm, IsMove, IsEventInForm, AreValues, IsValue}
+use Rattle.sp_planfile.specs.Form.{IsInForm, IsParentMove, IsEventInForm, AreValuesOfEditions, IsTickValue}
 use Rattle.sp_planfile.specs.Laws.{TextTellsContents, NoTextIsBeginning}
 use Rattle.sp_planfile.proofs.Unique.{line_tells, line_lacks, spaced_tells, spaced_lacks, letters}
 use Rattle.sp_planfile.proofs.Sections.{head_told, model_told, count_told, lines_told, lacks-append, behind_same}
@@ -21,14 +21,14 @@ use Rattle.sp_planfile.proofs.LogTexts.{logs_told, plain_logs, IsPlainLog}
 
 -- ---- beliefs
 pub move_lacks : (x : ℕ × ℕ) → IsSmallPair x → Lacks 10 (belief_line x)
-move_lacks x small = lacks-append 10 (codes "belief") (spaced (x.0 ∷ x.1 ∷ [])) (letters (codes "belief") (omega arith, (omega arith, (omega arith, (omega arith, (omega arith, (omega arith, tt))))))) (spaced_lacks (x.0 ∷ x.1 ∷ []) (small.0, (small.1, tt)))
+move_lacks x small = lacks-append 10 (codes "belief") (numbers_behind_spaces (x.0 ∷ x.1 ∷ [])) (letters (codes "belief") (omega arith, (omega arith, (omega arith, (omega arith, (omega arith, (omega arith, tt))))))) (spaced_lacks (x.0 ∷ x.1 ∷ []) (small.0, (small.1, tt)))
 
 pub move_tells : (x y : ℕ × ℕ) → IsSmallPair x → IsSmallPair y → belief_line x ≡ belief_line y → x ≡ y
 move_tells (a, b) (d, e) small other same =
-    let both = spaced_tells (a ∷ b ∷ []) (d ∷ e ∷ []) (small.0, (small.1, tt)) (other.0, (other.1, tt)) (behind_same (codes "belief") (spaced (a ∷ b ∷ [])) (spaced (d ∷ e ∷ [])) same) in
+    let both = spaced_tells (a ∷ b ∷ []) (d ∷ e ∷ []) (small.0, (small.1, tt)) (other.0, (other.1, tt)) (behind_same (codes "belief") (numbers_behind_spaces (a ∷ b ∷ [])) (numbers_behind_spaces (d ∷ e ∷ [])) same) in
     cc both
 
-small_moves : (actions joint : ℕ) (xs : List (ℕ × ℕ)) → IsSmall actions → IsSmall joint → AllByRecursion (IsMove actions joint) xs → AllByRecursion IsSmallPair xs
+small_moves : (actions joint : ℕ) (xs : List (ℕ × ℕ)) → IsSmall actions → IsSmall joint → AllByRecursion (IsParentMove actions joint) xs → AllByRecursion IsSmallPair xs
 small_moves actions joint [] few less all = tt
 small_moves actions joint (x ∷ xs) few less all = let first = all.0 in ((omega (arith, first.0, few), omega (arith, first.1, less)), small_moves actions joint xs few less all.1)
 
@@ -47,14 +47,14 @@ events_told xs ys us vs few less a b e =
     lines_told event_line HasSmall line_lacks line_tells xs ys us vs counts.0 a b counts.1
 
 -- ---- values
-values_told : (events others : List Event) (x y : Option (List ℤ)) (us vs : List ℕ) → is_some x ≡ is_some y → AreValues events x → AreValues others y → values_text x ++ us ≡ values_text y ++ vs → (x ≡ y) × (us ≡ vs)
+values_told : (events others : List Event) (x y : Option (List ℤ)) (us vs : List ℕ) → is_some x ≡ is_some y → AreValuesOfEditions events x → AreValuesOfEditions others y → values_text x ++ us ≡ values_text y ++ vs → (x ≡ y) × (us ≡ vs)
 values_told events others None None us vs some a b e = (refl, e)
 values_told events others None (Some ys) us vs some a b e = absurd (false≢true some)
 values_told events others (Some xs) None us vs some a b e = absurd (false≢true (sym some))
 values_told events others (Some xs) (Some ys) us vs some a b e =
     let counts = count_told (codes "values") (length xs) (length ys) (lines_of value_line xs ++ us) (lines_of value_line ys ++ vs) a.1 b.1
     (sym (append_assoc (count_line (codes "values") (length xs)) (10 ∷ lines_of value_line xs) us) ∙ e ∙ append_assoc (count_line (codes "values") (length ys)) (10 ∷ lines_of value_line ys) vs) in
-    let lines = lines_told value_line IsValue value_lacks value_tells xs ys us vs counts.0 a.2 b.2 counts.1 in
+    let lines = lines_told value_line IsTickValue value_lacks value_tells xs ys us vs counts.0 a.2 b.2 counts.1 in
     (ap Some lines.0, lines.1)
 
 -- ---- logs

@@ -27,8 +27,8 @@ pub record AreInRange (o : Options) : Type 0 where
   pub seed : IsSmall o.seed
 
 -- an action and a joint observation of the model
-abbrev pub IsMove : ℕ → ℕ → ℕ × ℕ → Type 0
-IsMove actions joint move = (move.0 < actions) × (move.1 < joint)
+abbrev pub IsParentMove : ℕ → ℕ → ℕ × ℕ → Type 0
+IsParentMove actions joint move = (move.0 < actions) × (move.1 < joint)
 
 -- a settle names a sampled belief and an action and has one link for each joint observation, and a prune has a pair
 abbrev pub IsEventInForm : ℕ → ℕ → ℕ → Event → Type 0
@@ -46,13 +46,13 @@ edition_count (prune pairs ∷ events) = suc (edition_count events)
 edition_count (end ∷ events) = edition_count events
 
 -- at most 10^18 ticks
-abbrev pub IsValue : ℤ → Type 0
-IsValue value = unsigned_abs value ≤ 10 ^ 18
+abbrev pub IsTickValue : ℤ → Type 0
+IsTickValue value = unsigned_abs value ≤ 10 ^ 18
 
 -- one value for edition 0 and for each that the events make
-abbrev pub AreValues : List Event → Option (List ℤ) → Type 0
-AreValues events None = Unit {0}
-AreValues events (Some values) = (length values ≡ suc (edition_count events)) × IsSmall (length values) × AllByRecursion IsValue values
+abbrev pub AreValuesOfEditions : List Event → Option (List ℤ) → Type 0
+AreValuesOfEditions events None = Unit {0}
+AreValuesOfEditions events (Some values) = (length values ≡ suc (edition_count events)) × IsSmall (length values) × AllByRecursion IsTickValue values
 
 abbrev pub IsEntryInForm : ℕ → ℕ → Entry → Type 0
 IsEntryInForm actions joint (told e) = IsSmall e
@@ -85,10 +85,10 @@ pub record IsInForm (actions joint : ℕ) (c : Contents) : Type 0 where
   pub model : AreModelLines c.model
   pub options : AreInRange c.options
   pub move_count : suc (length c.moves) ≡ c.options.beliefs
-  pub moves : AllByRecursion (IsMove actions joint) c.moves
+  pub moves : AllByRecursion (IsParentMove actions joint) c.moves
   pub event_count : IsSmall (length c.events)
   pub events : AllByRecursion (IsEventInForm c.options.beliefs actions joint) c.events
-  pub values : AreValues c.events c.values
+  pub values : AreValuesOfEditions c.events c.values
   pub log_count : IsSmall (length c.logs)
   pub logs : AllByRecursion (IsLogInForm actions joint) c.logs
   pub names : AllPairs (λ x y. x ≢ y) (map (λ log. log.name) c.logs)

@@ -7,7 +7,7 @@ use Rattle.sp_value.specs.declared.tasks.Explore.{Explore}
 use Rattle.sp_value.specs.declared.tasks.Explore.TheVariants.{Uniform, Sweep}
 use Rattle.sp_value.specs.declared.tasks.Options.{Options}
 use Rattle.sp_show.specs.Decimals.{decimal_of}
-use Rattle.sp_lines.specs.Lines.{spaced, lines_of}
+use Rattle.sp_lines.specs.Lines.{numbers_behind_spaces, lines_of}
 use Rattle.sp_planfile.specs.RunText.{event_line}
 use Rattle.sp_planfile.specs.Contents.{Contents}
 
@@ -24,20 +24,20 @@ prune_word true = codes " yes"
 prune_word false = codes " no"
 
 abbrev pub options_line : Options → List ℕ
-options_line o = codes "options" ++ (spaced (o.beliefs ∷ o.depth ∷ o.stages ∷ o.seed ∷ []) ++ (explore_word o.explore ++ prune_word o.prune))
+options_line o = codes "options" ++ (numbers_behind_spaces (o.beliefs ∷ o.depth ∷ o.stages ∷ o.seed ∷ []) ++ (explore_word o.explore ++ prune_word o.prune))
 
 abbrev pub belief_line : ℕ × ℕ → List ℕ
-belief_line move = codes "belief" ++ spaced (move.0 ∷ move.1 ∷ [])
+belief_line move = codes "belief" ++ numbers_behind_spaces (move.0 ∷ move.1 ∷ [])
 
 abbrev pub value_line : ℤ → List ℕ
 value_line value = codes "value " ++ decimal_of value
 
 abbrev pub entry_line : Entry → List ℕ
-entry_line (told e) = codes "told" ++ spaced (e ∷ [])
-entry_line (act e id a) = codes "act" ++ spaced (e ∷ id ∷ a ∷ [])
-entry_line (observe o) = codes "observe" ++ spaced (o ∷ [])
-entry_line (unseen o) = codes "unseen" ++ spaced (o ∷ [])
-entry_line (closing e id a) = codes "closing" ++ spaced (e ∷ id ∷ a ∷ [])
+entry_line (told e) = codes "told" ++ numbers_behind_spaces (e ∷ [])
+entry_line (act e id a) = codes "act" ++ numbers_behind_spaces (e ∷ id ∷ a ∷ [])
+entry_line (observe o) = codes "observe" ++ numbers_behind_spaces (o ∷ [])
+entry_line (unseen o) = codes "unseen" ++ numbers_behind_spaces (o ∷ [])
+entry_line (closing e id a) = codes "closing" ++ numbers_behind_spaces (e ∷ id ∷ a ∷ [])
 
 -- ---- sections
 -- what stands before the lines of the model: of version 2 where there are values
@@ -46,7 +46,7 @@ head_text has_values = version_line has_values ++ codes "\nmodel\n"
 
 -- a word with the count of what follows
 abbrev pub count_line : List ℕ → ℕ → List ℕ
-count_line word count = word ++ spaced (count ∷ [])
+count_line word count = word ++ numbers_behind_spaces (count ∷ [])
 
 abbrev pub events_section : List Event → List ℕ
 events_section events = count_line (codes "events") (length events) ++ (10 ∷ lines_of event_line events)

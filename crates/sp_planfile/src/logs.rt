@@ -1,7 +1,7 @@
 //! The lines of sessions' logs.
 
 ghost use Rattle.std.specs.Prelude.{◌≡◌, ◌++◌, ◌∷◌, [], OnOk};
-ghost use Rattle.sp_lines.specs.Lines.{lines_of, spaced};
+ghost use Rattle.sp_lines.specs.Lines.{lines_of, numbers_behind_spaces};
 ghost use Rattle.sp_session.specs.Logs.{entry_of, entries_of, log_of, logs_of};
 ghost use Rattle.sp_planfile.specs.PlanText.{entry_line, log_text, logs_text, logs_section};
 
@@ -71,7 +71,7 @@ fn put_entry(text: &mut Vec<u8>, entry: &Entry) -> Result<(), NoMemory>
 
 /// Adds a line of a word and numbers.
 fn put_line(text: &mut Vec<u8>, word: &[u8], numbers: &[u64]) -> Result<(), NoMemory>
-    ensures { OnOk result (text.new.items ≡ text.old.items ++ ((word.now ++ spaced numbers.now) ++ 10 ∷ [])) }
+    ensures { OnOk result (text.new.items ≡ text.old.items ++ ((word.now ++ numbers_behind_spaces numbers.now) ++ 10 ∷ [])) }
 {
     put(text, word)?;
     put_numbers(text, numbers)?;

@@ -18,7 +18,7 @@ use Rattle.sp_value.specs.Tasks.{TaskParts, IsTask, task_of}
 use Rattle.sp_core.specs.Books.{BookParts, IsBook, state_of}
 use Rattle.sp_core.specs.Marks.{marks_of}
 use Rattle.sp_core.specs.Opening.{first_parts}
-use Rattle.sp_sampler.specs.Words.{word_at, seeded}
+use Rattle.sp_sampler.specs.Words.{word_at, stream_of_seed}
 use Rattle.sp_planner.specs.Laws.{FinishedBooksArePlanned, FinishedBooksAreTrusted}
 use Rattle.sp_planner.specs.Planned.{next_seed, picking_words, IsTrusted, IsPlanned}
 use Rattle.sp_planner.specs.Turns.{IsRun}
@@ -44,7 +44,7 @@ trusted t is pruning words enough =
 
 -- as many words as are drawn
 enough_words : (o : Options) → o.beliefs * o.stages ≤ length (picking_words o)
-enough_words o = let long = length-map-range_with_len (word_at (seeded (next_seed o.seed))) 0 (o.beliefs * o.stages) in omega (arith, long)
+enough_words o = let long = length-map-range_with_len (word_at (stream_of_seed (next_seed o.seed))) 0 (o.beliefs * o.stages) in omega (arith, long)
 
 marks_down : (m j : ℕ) → get_or (replicate m false) j false ≡ false
 marks_down zero j = refl

@@ -13,9 +13,9 @@ use Rattle.sp_core.specs.declared.answers.Pruned.TheVariants as pruned
 use Rattle.sp_core.specs.Books.{BookParts, state_of}
 use Rattle.sp_core.specs.Settling.{IsOurs, IsSettled, IsSettledBy, answer_for, events_for}
 use Rattle.sp_core.specs.Pruning.{IsPruned, IsPruneOf}
-use Rattle.sp_planner.specs.Turns.{IsLater}
+use Rattle.sp_planner.specs.Turns.{IsLaterBook}
 
-pub later_same : (b d : BookParts) → d ≡ b → IsLater b d
+pub later_same : (b d : BookParts) → d ≡ b → IsLaterBook b d
 later_same b d same = record {
   task = ap (λ (x : BookParts). x.task) same;
   more = [];
@@ -23,7 +23,7 @@ later_same b d same = record {
   editions = ([], append-nil b.editions ∙ ap (λ (x : BookParts). x.editions) (sym same));
 }
 
-pub later_then : (b d e : BookParts) → IsLater b d → IsLater d e → IsLater b e
+pub later_then : (b d e : BookParts) → IsLaterBook b d → IsLaterBook d e → IsLaterBook b e
 later_then b d e first next = record {
   task = next.task ∙ first.task;
   more = first.more ++ next.more;
@@ -35,7 +35,7 @@ later_then b d e first next = record {
 }
 
 -- a mark changes no event
-pub later_taken : (c : Bool) (b d : BookParts) (marks : List Bool) → d ≡ cond c b (record b { taken = marks }) → IsLater b d
+pub later_taken : (c : Bool) (b d : BookParts) (marks : List Bool) → d ≡ cond c b (record b { taken = marks }) → IsLaterBook b d
 later_taken true b d marks same = later_same b d same
 later_taken false b d marks same = record {
   task = ap (λ (x : BookParts). x.task) same;
@@ -45,21 +45,21 @@ later_taken false b d marks same = record {
 }
 
 -- after a settle
-pub later_settled : (b : BookParts) (c : CandidateParts) (answer : Settled) (d : BookParts) → IsSettled b c answer d → IsLater b d
+pub later_settled : (b : BookParts) (c : CandidateParts) (answer : Settled) (d : BookParts) → IsSettled b c answer d → IsLaterBook b d
 later_settled b c answer d is = by_state (state_of b).done is
   where
-    by_state : (over : Bool) → MatchBool over ((answer ≡ settled.Over) × (d ≡ b)) (IsOurs b c.base × (answer ≡ answer_for b c) × IsSettledBy b c d) → IsLater b d
+    by_state : (over : Bool) → MatchBool over ((answer ≡ settled.Over) × (d ≡ b)) (IsOurs b c.base × (answer ≡ answer_for b c) × IsSettledBy b c d) → IsLaterBook b d
     by_state true h = later_same b d h.1
     by_state false h = record { task = h.2.task; more = events_for b c; history = h.2.history; editions = (h.2.editions.0, sym h.2.editions.1) }
 
 -- after a prune
-pub later_pruned : (b : BookParts) (e : EditionParts) (pairs : List (ℕ × ℕ)) (answer : Pruned) (d : BookParts) → IsPruned b e pairs answer d → IsLater b d
+pub later_pruned : (b : BookParts) (e : EditionParts) (pairs : List (ℕ × ℕ)) (answer : Pruned) (d : BookParts) → IsPruned b e pairs answer d → IsLaterBook b d
 later_pruned b e pairs answer d is = by_state (state_of b).done is
   where
-    by_pairs : (applied : List (ℕ × ℕ)) → IsPruneOf b applied answer d → IsLater b d
+    by_pairs : (applied : List (ℕ × ℕ)) → IsPruneOf b applied answer d → IsLaterBook b d
     by_pairs [] h = later_same b d h.1
     by_pairs (pair ∷ rest) h = record { task = h.1.task; more = prune (pair ∷ rest) ∷ []; history = h.1.history; editions = (h.1.editions.0 ∷ [], sym h.1.editions.1) }
 
-    by_state : (over : Bool) → MatchBool over ((answer ≡ pruned.Over) × (d ≡ b)) (IsOurs b e × IsPruneOf b (applying (state_of b).latest pairs) answer d) → IsLater b d
+    by_state : (over : Bool) → MatchBool over ((answer ≡ pruned.Over) × (d ≡ b)) (IsOurs b e × IsPruneOf b (applying (state_of b).latest pairs) answer d) → IsLaterBook b d
     by_state true h = later_same b d h.1
     by_state false h = by_pairs (applying (state_of b).latest pairs) h.1

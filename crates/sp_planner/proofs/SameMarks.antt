@@ -2,18 +2,18 @@
 use Rattle.std.proofs.Common.{◌≡◌, ◌∙◌, ap, refl, ℕ, ◌%◌, List, [], ◌∷◌, ◌++◌, length, get_or, Bool, true, false, cond, not, ◌||◌, eqb}
 use Rattle.sp_theory.specs.Book.{Task, Book, Event, after_event}
 use Rattle.sp_theory.specs.Runs.{replay}
-use Rattle.sp_theory.specs.OneThread.{Marks, unmarked, open_beliefs, picked, settled_at, all_improved, due_events, turn, marks_after, one_thread}
+use Rattle.sp_theory.specs.OneThread.{Marks, beliefs_without_mark, open_beliefs, picked, settled_at, all_improved, due_events, turn, marks_after, one_thread}
 use Rattle.sp_core.proofs.Counting.{filter_same}
 use Rattle.sp_planner.specs.Turns.{MarksAgree}
 
 module _ (t : Task) (pruning : Bool) where
   module _ (b : Book) (m n : Marks) (agree : MarksAgree t m n) (word : ℕ) where
-    fresh_same : unmarked t (λ k. b.improved k || m k) ≡ unmarked t (λ k. b.improved k || n k)
+    fresh_same : beliefs_without_mark t (λ k. b.improved k || m k) ≡ beliefs_without_mark t (λ k. b.improved k || n k)
     fresh_same = filter_same (λ k. not (b.improved k || m k)) (λ k. not (b.improved k || n k)) t.beliefs (λ k less. ap (λ (c : Bool). not (b.improved k || c)) (agree k less))
 
     picked_same : picked t b m word ≡ picked t b n word
     unfolding picked open_beliefs
-    picked_same = ap (λ (fresh : List ℕ). let open_now = cond (eqb (length fresh) 0) (unmarked t b.improved) fresh in get_or open_now (word % length open_now) 0) fresh_same
+    picked_same = ap (λ (fresh : List ℕ). let open_now = cond (eqb (length fresh) 0) (beliefs_without_mark t b.improved) fresh in get_or open_now (word % length open_now) 0) fresh_same
 
     pub turn_same : turn t pruning b m word ≡ turn t pruning b n word
     unfolding turn

@@ -11,7 +11,7 @@ use Rattle.sp_model.specs.declared.parts.Parts.{Parts}
 use Rattle.sp_value.specs.declared.tasks.Options.{Options}
 use Rattle.sp_value.specs.Tasks.{TaskParts, IsTask, task_of}
 use Rattle.sp_choose.specs.Machines.{Machine}
-use Rattle.sp_sampler.specs.Words.{first_words, seeded}
+use Rattle.sp_sampler.specs.Words.{first_words, stream_of_seed}
 use Rattle.sp_sampler.specs.Sampled.{AreSampled}
 use Rattle.sp_planner.specs.declared.summary.Summary.{Summary}
 
@@ -30,14 +30,14 @@ next_seed seed = (seed + 1) % 2 ^ 64
 
 -- the words that pick beliefs: as many as the beliefs of all stages, which are enough
 abbrev pub picking_words : Options → List ℕ
-picking_words o = first_words (o.beliefs * o.stages) (seeded (next_seed o.seed))
+picking_words o = first_words (o.beliefs * o.stages) (stream_of_seed (next_seed o.seed))
 
 -- the task is that of the model, the options and the beliefs that the chooser and the words of the seed sample
 pub record IsTaskFor (p : Parts) (o : Options) (chooser : Machine) (t : TaskParts) : Type 0 where
   pub is_task : IsTask t
   pub model : t.model ≡ p
   pub options : t.options ≡ o
-  pub samples : AreSampled p chooser o.depth (first_words (2 * o.beliefs) (seeded o.seed)) o.beliefs t.samples.list
+  pub samples : AreSampled p chooser o.depth (first_words (2 * o.beliefs) (stream_of_seed o.seed)) o.beliefs t.samples.list
 
 -- what is known of a run to its end, beside which events it has
 pub record IsTrusted (t : Task) (events : List Event) : Type 0 where

@@ -11,7 +11,7 @@ use Rattle.sp_core.specs.Marks.{marks_of}
 use Rattle.sp_sampler.specs.Words.{left_after, word_at, first_words}
 
 -- one book stands later in the run of another
-pub record IsLater (b d : BookParts) : Type 0 where
+pub record IsLaterBook (b d : BookParts) : Type 0 where
   pub task : d.task ≡ b.task
   pub more : List Event
   pub history : d.history ≡ b.history ++ more

@@ -9,7 +9,7 @@ ghost use Rattle.sp_core.specs.Opening.{first_parts};
 ghost use Rattle.sp_value.specs.Events.{events_of};
 ghost use Rattle.sp_sampler.specs.Words.{first_words};
 ghost use Rattle.sp_planner.specs.Planned.{AreOptions, IsPlanned, IsTaskFor, picking_words};
-ghost use Rattle.sp_planner.specs.Turns.{IsLater, IsTurn, IsBackedUp, IsPruning, IsRun};
+ghost use Rattle.sp_planner.specs.Turns.{IsLaterBook, IsTurn, IsBackedUp, IsPruning, IsRun};
 ghost use Rattle.sp_planner.specs.Pauses.{IsServed, is_pause, pauses};
 
 use crate::between::{BetweenTurns, Idle};
@@ -90,7 +90,7 @@ pub fn finish<B: BetweenTurns>(
 ) -> Result<(), NoMemory>
     ensures run { OnOk result (IsRun pruning book.old (picking_words book.old.task.options) book.new) }
     ensures done { OnOk result ((state_of book.new).done ≡ true) }
-    ensures later { IsLater book.old book.new }
+    ensures later { IsLaterBook book.old book.new }
     ensures served { OnOk result (IsServed B.serves book.old.task (pauses (task_of book.old.task) pruning book.old.history (marks_of book.old.taken) (picking_words book.old.task.options)) between.old between.new) }
 {
     // what is known of each book, here and at the end
@@ -127,7 +127,7 @@ fn run<G: Rng, B: BetweenTurns>(
     between: &mut B,
 ) -> Result<(), NoMemory>
     ensures run { OnOk result (IsRun pruning book.old (first_words turns (G.stream words.old)) book.new) }
-    ensures later { IsLater book.old book.new }
+    ensures later { IsLaterBook book.old book.new }
     ensures served { OnOk result (IsServed B.serves book.old.task (pauses (task_of book.old.task) pruning book.old.history (marks_of book.old.taken) (first_words turns (G.stream words.old))) between.old between.new) }
 {
     // what is known of each book
@@ -156,7 +156,7 @@ fn step<B: BetweenTurns>(
     between: &mut B,
 ) -> Result<(), NoMemory>
     ensures turn { OnOk result (IsTurn pruning book.old word book.new) }
-    ensures later { IsLater book.old book.new }
+    ensures later { IsLaterBook book.old book.new }
     ensures known { OnOk result (IsBook book.new) }
     ensures served { OnOk result (MatchBool (is_pause (task_of book.old.task) book.old.history book.new.history) (B.serves between.old book.new between.new) (between.new ≡ between.old)) }
 {
@@ -204,7 +204,7 @@ fn turn(
     word: u64,
 ) -> Result<(), NoMemory>
     ensures turn { OnOk result (IsTurn pruning book.old word book.new) }
-    ensures later { IsLater book.old book.new }
+    ensures later { IsLaterBook book.old book.new }
 {
     // what is known of each book
     let _ = book.task();
@@ -229,7 +229,7 @@ fn back_up(
     requires going { (state_of book.old).done ≡ false }
     requires below { belief < book.old.task.options.beliefs }
     ensures backed_up { OnOk result (IsBackedUp book.old belief book.new) }
-    ensures later { IsLater book.old book.new }
+    ensures later { IsLaterBook book.old book.new }
 {
     // what is known of each book, here and after the settle
     let _ = book.task();
@@ -246,7 +246,7 @@ fn back_up(
 /// Drops the dominated members of the latest edition, where that is asked for and the book isn't finished.
 fn drop_dominated(alloc: Global, book: &mut Book, pruning: bool) -> Result<(), NoMemory>
     ensures pruned { OnOk result (IsPruning pruning book.old book.new) }
-    ensures later { IsLater book.old book.new }
+    ensures later { IsLaterBook book.old book.new }
 {
     // what is known of each book
     let _ = book.task();

@@ -14,7 +14,7 @@ use Rattle.sp_theory.specs.Points as theory
 use Rattle.sp_theory.specs.OneThread.{nowhere_above}
 use Rattle.sp_theory.proofs.Extremes.{holds_over_at, holds_over_all}
 use Rattle.sp_model.specs.declared.parts.Parts.{Parts}
-use Rattle.sp_model.specs.Problem.{sizes_of, shape_of, in_turn, padded, point_of, vector_of, problem}
+use Rattle.sp_model.specs.Problem.{sizes_of, shape_of, in_turn, first_numbers, point_of, vector_of, problem}
 use Rattle.sp_model.specs.Kept.{IsModel}
 use Rattle.sp_model.proofs.SlotPoints.{padded-whole, length-padded, length-point, split}
 use Rattle.sp_model.proofs.InitialLaw.{point_at}
@@ -50,8 +50,8 @@ module _ (p : Parts) (known : IsModel p) where
   long : (s : List ℕ) → theory.IsPoint (sizes_of p.variables) s → length s ≡ n
   long s at = length-point (sizes_of p.variables) s at ∙ length-sizes_of p.variables
 
-  whole : (s : List ℕ) → theory.IsPoint (sizes_of p.variables) s → padded n s ≡ s
-  whole s at = ap (λ (k : ℕ). padded k s) (sym (length-sizes_of p.variables)) ∙ padded-whole (sizes_of p.variables) s at
+  whole : (s : List ℕ) → theory.IsPoint (sizes_of p.variables) s → first_numbers n s ≡ s
+  whole s at = ap (λ (k : ℕ). first_numbers k s) (sym (length-sizes_of p.variables)) ∙ padded-whole (sizes_of p.variables) s at
 
   -- a function of unprimed slots has the value of the state
   state_value : (f : Func) → f.shape ≡ shape_of p → IsOnUnprimed f → (s t z : List ℕ) → theory.IsPoint (sizes_of p.variables) s → theory.IsPoint (sizes_of p.variables) t → IsPointOf f (in_turn s t ++ z)
@@ -75,7 +75,7 @@ module _ (p : Parts) (known : IsModel p) where
           let first = length-padded n s in
           let second = length-padded n [] in
           ap (λ (k : ℕ). get_or (in_turn s t ++ z) k 0) even ∙ even_at s t z (j / 2) (omega (arith, own, next)) (omega (arith, own, low))
-          ∙ sym (ap (λ (k : ℕ). get_or (point_of p s [] []) k 0) even ∙ even_at (padded n s) (padded n []) (padded (length p.sights) []) (j / 2) (omega (arith, first, second)) (omega (arith, first, low)) ∙ ap (λ (l : List ℕ). get_or l (j / 2) 0) (whole s at))
+          ∙ sym (ap (λ (k : ℕ). get_or (point_of p s [] []) k 0) even ∙ even_at (first_numbers n s) (first_numbers n []) (first_numbers (length p.sights) []) (j / 2) (omega (arith, first, second)) (omega (arith, first, low)) ∙ ap (λ (l : List ℕ). get_or l (j / 2) 0) (whole s at))
 
   module _ (x y : Member) (of_x : IsVector p x.vector) (of_y : IsVector p y.vector) where
     -- at most at each point is at most at each state

@@ -6,8 +6,8 @@ use mathlib.Core.List.{IsPrefix}
 use prog.Atomic.{either}
 use Rattle.logbook.specs.Pages.{Cell, cell, keeps, no_nib, step, Moves, Goes}
 use Rattle.sp_publish.specs.declared.item.Item.{Item}
-use Rattle.sp_publish.specs.Logs.{IsLegal}
-use Rattle.sp_publish.specs.Rules.{IsKept, Adds}
+use Rattle.sp_publish.specs.Logs.{IsLegalLog}
+use Rattle.sp_publish.specs.Rules.{IsKeptLog, Adds}
 use Rattle.sp_publish.proofs.Prefixes.{prefix_whole}
 
 abbrev pub shown : List Item → List Item
@@ -16,13 +16,13 @@ shown log = []
 abbrev pub moved : List Item → List Item → ℕ → Type 0
 moved xs ys n = Unit {0}
 
-pub adds_goes : (log v : List Item) (e : Item) (old : ℕ) → length v ≡ old → IsLegal (v ++ e ∷ []) → IsLegal log → IsPrefix v log
+pub adds_goes : (log v : List Item) (e : Item) (old : ℕ) → length v ≡ old → IsLegalLog (v ++ e ∷ []) → IsLegalLog log → IsPrefix v log
     → (b : Bool) → (length log == old) ≡ b
-    → Goes IsKept shown moved 0 (v, (no_nib, None)) (λ n. either (n == old) (old + 1) n) (Adds (step 0 old (old + 1) e) (v, (no_nib, None))) ((length log, true) ∷ (0, true) ∷ []) log
+    → Goes IsKeptLog shown moved 0 (v, (no_nib, None)) (λ n. either (n == old) (old + 1) n) (Adds (step 0 old (old + 1) e) (v, (no_nib, None))) ((length log, true) ∷ (0, true) ∷ []) log
 adds_goes log v e old len may legal pre true is =
     let here : length log ≡ old = grind (arith, nat_tests) in
     let same : v ≡ log = prefix_whole v log pre (omega arith) in
-    let legal' : IsLegal (log ++ e ∷ []) = subst (λ (l : List Item). IsLegal (l ++ e ∷ [])) same may in
+    let legal' : IsLegalLog (log ++ e ∷ []) = subst (λ (l : List Item). IsLegalLog (l ++ e ∷ [])) same may in
     let n : either (length log == old) (old + 1) (length log) ≡ length (log ++ e ∷ []) = rw is (omega (arith, length-append log (e ∷ []))) in (
       keeps,
       e ∷ [],
@@ -34,7 +34,7 @@ adds_goes log v e old len may legal pre true is =
     )
 adds_goes log v e old len may legal pre false is =
     let all : log ++ [] ≡ log = append-nil log in
-    let legal' : IsLegal (log ++ []) = subst IsLegal (sym all) legal in
+    let legal' : IsLegalLog (log ++ []) = subst IsLegalLog (sym all) legal in
     let n : either (length log == old) (old + 1) (length log) ≡ length (log ++ []) = rw is (ap length (sym all)) in (
       keeps,
       [],
@@ -46,8 +46,8 @@ adds_goes log v e old len may legal pre false is =
     )
 
 -- whatever the book is, the exchange adds the entry to all that was seen, or finds that the history is longer
-pub adds_moves : (v : List Item) (e : Item) (old : ℕ) → length v ≡ old → IsLegal (v ++ e ∷ [])
-    → Moves IsKept shown moved 0 (v, (no_nib, None)) (λ n. either (n == old) (old + 1) n) (Adds (step 0 old (old + 1) e) (v, (no_nib, None)))
+pub adds_moves : (v : List Item) (e : Item) (old : ℕ) → length v ≡ old → IsLegalLog (v ++ e ∷ [])
+    → Moves IsKeptLog shown moved 0 (v, (no_nib, None)) (λ n. either (n == old) (old + 1) n) (Adds (step 0 old (old + 1) e) (v, (no_nib, None)))
 adds_moves v e old len may cs log kept pre away =
-    let P : List Cell → Type 0 = λ c. (0 < length c) × ((cell c 0).1 ≡ true) × Goes IsKept shown moved 0 (v, (no_nib, None)) (λ n. either (n == old) (old + 1) n) (Adds (step 0 old (old + 1) e) (v, (no_nib, None))) c log in
+    let P : List Cell → Type 0 = λ c. (0 < length c) × ((cell c 0).1 ≡ true) × Goes IsKeptLog shown moved 0 (v, (no_nib, None)) (λ n. either (n == old) (old + 1) n) (Adds (step 0 old (old + 1) e) (v, (no_nib, None))) c log in
     subst P (sym kept.words) (omega arith, refl, adds_goes log v e old len may kept.legal pre (length log == old) refl)

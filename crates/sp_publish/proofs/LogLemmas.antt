@@ -6,8 +6,8 @@ use Rattle.logbook.specs.Pages.{Book}
 use Rattle.sp_value.specs.Editions.{EditionParts}
 use Rattle.sp_publish.specs.declared.item.Item.{Item}
 use Rattle.sp_publish.specs.declared.item.Item.TheVariants.{Made, End}
-use Rattle.sp_publish.specs.Published.{Published, AreNumbered, AreOfOneTask, IsList, GoesOn, size_of}
-use Rattle.sp_publish.specs.Logs.{editions_in, has_end, NothingFollowsEnd, IsLegal, MayFollow, published_by, with_item}
+use Rattle.sp_publish.specs.Published.{PublishedList, AreAtTheirPlaces, AreOfOneTask, IsList, ListGoesOn, size_of}
+use Rattle.sp_publish.specs.Logs.{editions_in, has_end, NothingFollowsEnd, IsLegalLog, MayFollow, published_by, with_item}
 use Rattle.sp_publish.proofs.Prefixes.{prefix_shorter}
 
 editions_append : (xs ys : List Item) → editions_in (xs ++ ys) ≡ editions_in xs ++ editions_in ys
@@ -25,7 +25,7 @@ end_there [] = refl
 end_there (Made f ∷ xs) = end_there xs
 end_there (End ∷ xs) = refl
 
-abbrev told : Book → List EditionParts × Bool → Published
+abbrev told : Book → List EditionParts × Bool → PublishedList
 told b t = record { list = b; editions = t.0; ended = t.1 }
 
 -- the list that the log tells with one item more
@@ -52,7 +52,7 @@ first_more : (es : List EditionParts) (e a : EditionParts) → slice_get (es ++ 
 first_more [] e a h = inr (refl, cc (h))
 first_more (x ∷ es) e a h = inl h
 
-numbered_more : (es : List EditionParts) (e : EditionParts) → AreNumbered es → e.number ≡ length es → AreNumbered (es ++ e ∷ [])
+numbered_more : (es : List EditionParts) (e : EditionParts) → AreAtTheirPlaces es → e.number ≡ length es → AreAtTheirPlaces (es ++ e ∷ [])
 numbered_more es e h num k f at =
     ⊎_elim (λ (t : slice_get es k ≡ Some f). h k f t) (λ (t : (k ≡ length es) × (f ≡ e)). ap (λ (x : EditionParts). x.number) t.1 ∙ (num ∙ sym t.0)) (more_at es e f k at)
 
@@ -66,29 +66,29 @@ one_task_more (x ∷ es) e h task k a f first at =
     ⊎_elim (λ (t : slice_get (x ∷ es) k ≡ Some f). h k a f first t) (λ (t : (k ≡ length (x ∷ es)) × (f ≡ e)). ap (λ (y : EditionParts). y.task) t.1 ∙ sym (task a first)) (more_at (x ∷ es) e f k at)
 
 -- a legal log with an item that may follow is legal
-pub legal_more : (b : Book) (log : List Item) (x : Item) → IsLegal log → MayFollow (published_by b log) x → IsLegal (log ++ x ∷ [])
+pub legal_more : (b : Book) (log : List Item) (x : Item) → IsLegalLog log → MayFollow (published_by b log) x → IsLegalLog (log ++ x ∷ [])
 legal_more b log (Made e) h may =
     let is : editions_in (log ++ Made e ∷ []) ≡ editions_in log ++ e ∷ [] = editions_append log (Made e ∷ []) in record {
-      numbered = subst AreNumbered (sym is) (numbered_more (editions_in log) e h.numbered may.1);
+      numbered = subst AreAtTheirPlaces (sym is) (numbered_more (editions_in log) e h.numbered may.1);
       of_one_task = subst AreOfOneTask (sym is) (one_task_more (editions_in log) e h.of_one_task may.2);
       closed = closed_more log (Made e) may.0 h.closed;
     }
 legal_more b log End h may =
     let is : editions_in (log ++ End ∷ []) ≡ editions_in log = editions_append log (End ∷ []) ∙ append-nil (editions_in log) in record {
-      numbered = subst AreNumbered (sym is) h.numbered;
+      numbered = subst AreAtTheirPlaces (sym is) h.numbered;
       of_one_task = subst AreOfOneTask (sym is) h.of_one_task;
       closed = closed_more log End may.0 h.closed;
     }
 
-some_more : (p : Published) (x : Item) → MayFollow p x → 0 < length (with_item p x).editions
+some_more : (p : PublishedList) (x : Item) → MayFollow p x → 0 < length (with_item p x).editions
 some_more p (Made e) may = omega (arith, length-append p.editions (e ∷ []))
 some_more p End may = may.1
 
 -- the list that such a log tells keeps what each list keeps
-pub list_more : (b : Book) (log : List Item) (x : Item) → IsLegal log → MayFollow (published_by b log) x → IsList (published_by b (log ++ x ∷ []))
+pub list_more : (b : Book) (log : List Item) (x : Item) → IsLegalLog log → MayFollow (published_by b log) x → IsList (published_by b (log ++ x ∷ []))
 list_more b log x h may =
-    let legal : IsLegal (log ++ x ∷ []) = legal_more b log x h may in record {
-      some = subst (λ (p : Published). 0 < length p.editions) (sym (published_more b log x)) (some_more (published_by b log) x may);
+    let legal : IsLegalLog (log ++ x ∷ []) = legal_more b log x h may in record {
+      some = subst (λ (p : PublishedList). 0 < length p.editions) (sym (published_more b log x)) (some_more (published_by b log) x may);
       numbered = legal.numbered;
       of_one_task = legal.of_one_task;
     }
@@ -112,7 +112,7 @@ ended_whole (End ∷ []) (End ∷ ys) p e f = ap (λ (zs : List Item). End ∷ z
 ended_whole (End ∷ x ∷ xs) (End ∷ ys) p e f = absurd (cc (p.1, f))
 
 -- the list of a log goes on from that of each beginning of the log
-pub goes_on_by_log : (b : Book) (xs ys : List Item) → IsPrefix xs ys → IsLegal ys → GoesOn (published_by b xs) (published_by b ys)
+pub goes_on_by_log : (b : Book) (xs ys : List Item) → IsPrefix xs ys → IsLegalLog ys → ListGoesOn (published_by b xs) (published_by b ys)
 goes_on_by_log b xs ys p h = record {
   list = refl;
   editions = (editions_in p.0, sym (editions_append xs p.0) ∙ ap editions_in p.1);
@@ -120,26 +120,26 @@ goes_on_by_log b xs ys p h = record {
 }
 
 -- of two lists told by beginnings of one log the one with more items goes on from the other
-pub shorter_goes_on : (b : Book) (xs ys zs : List Item) → IsPrefix xs zs → IsPrefix ys zs → IsLegal xs → IsLegal ys
-    → size_of (published_by b xs) ≤ size_of (published_by b ys) → GoesOn (published_by b xs) (published_by b ys)
+pub shorter_goes_on : (b : Book) (xs ys zs : List Item) → IsPrefix xs zs → IsPrefix ys zs → IsLegalLog xs → IsLegalLog ys
+    → size_of (published_by b xs) ≤ size_of (published_by b ys) → ListGoesOn (published_by b xs) (published_by b ys)
 shorter_goes_on b xs ys zs p q hx hy le =
     let short : length xs ≤ length ys = omega (arith, size_is b xs hx.closed, size_is b ys hy.closed) in
     goes_on_by_log b xs ys (prefix_shorter xs ys zs p q short) hy
 
 -- what a step that adds an item tells of the list
-pub added_is : (b c : Book) (log new : List Item) (x y : Item) (p q r : Published) → published_by b log ≡ p → p ≡ q → c ≡ b → new ≡ log ++ x ∷ [] → x ≡ y → r ≡ published_by c new → r ≡ with_item q y
+pub added_is : (b c : Book) (log new : List Item) (x y : Item) (p q r : PublishedList) → published_by b log ≡ p → p ≡ q → c ≡ b → new ≡ log ++ x ∷ [] → x ≡ y → r ≡ published_by c new → r ≡ with_item q y
 added_is b c log new x y p q r told view one is ask of_is =
-    of_is ∙ (ap (λ (d : Book). published_by d new) one ∙ (ap (published_by b) is ∙ (published_more b log x ∙ (ap (λ (t : Published). with_item t x) (told ∙ view) ∙ ap (with_item q) ask))))
+    of_is ∙ (ap (λ (d : Book). published_by d new) one ∙ (ap (published_by b) is ∙ (published_more b log x ∙ (ap (λ (t : PublishedList). with_item t x) (told ∙ view) ∙ ap (with_item q) ask))))
 
-pub added_size : (b c : Book) (log new : List Item) (x : Item) (p r : Published) (n : ℕ) → published_by b log ≡ p → r ≡ published_by c new → new ≡ log ++ x ∷ [] → NothingFollowsEnd log → NothingFollowsEnd new
+pub added_size : (b c : Book) (log new : List Item) (x : Item) (p r : PublishedList) (n : ℕ) → published_by b log ≡ p → r ≡ published_by c new → new ≡ log ++ x ∷ [] → NothingFollowsEnd log → NothingFollowsEnd new
     → n ≡ size_of p → n + 1 ≡ size_of r
 added_size b c log new x p r n told of_is is closed closed' num =
-    let old : length log ≡ size_of p = subst (λ (t : Published). length log ≡ size_of t) told (size_is b log closed) in
-    let now : length new ≡ size_of r = subst (λ (t : Published). length new ≡ size_of t) (sym of_is) (size_is c new closed') in
+    let old : length log ≡ size_of p = subst (λ (t : PublishedList). length log ≡ size_of t) told (size_is b log closed) in
+    let now : length new ≡ size_of r = subst (λ (t : PublishedList). length new ≡ size_of t) (sym of_is) (size_is c new closed') in
     omega (arith, old, now, num, ap length is ∙ length-append log (x ∷ []))
 
-pub added_list : (b c : Book) (log new : List Item) (x y : Item) (p q r : Published) → published_by b log ≡ p → p ≡ q → c ≡ b → new ≡ log ++ x ∷ [] → x ≡ y → r ≡ published_by c new
-    → IsLegal log → MayFollow q y → IsList r
+pub added_list : (b c : Book) (log new : List Item) (x y : Item) (p q r : PublishedList) → published_by b log ≡ p → p ≡ q → c ≡ b → new ≡ log ++ x ∷ [] → x ≡ y → r ≡ published_by c new
+    → IsLegalLog log → MayFollow q y → IsList r
 added_list b c log new x y p q r told view one is ask of_is legal may =
-    let may' : MayFollow (published_by b log) x = subst (λ (t : Published). MayFollow t x) (sym (told ∙ view)) (subst (MayFollow q) (sym ask) may) in
+    let may' : MayFollow (published_by b log) x = subst (λ (t : PublishedList). MayFollow t x) (sym (told ∙ view)) (subst (MayFollow q) (sym ask) may) in
     subst IsList (sym (of_is ∙ (ap (λ (d : Book). published_by d new) one ∙ ap (published_by b) is))) (list_more b log x legal may')

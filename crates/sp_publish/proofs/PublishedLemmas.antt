@@ -2,19 +2,19 @@
 use Rattle.std.proofs.Common.{◌≡◌, ℕ, ◌-◌, ◌≤◌, Bool, true, false, Some, List, [], ◌∷◌, ◌++◌, length, slice_get, refl, sym, ◌∙◌, ap, subst, arith, inl, inr, length-append}
 use mathlib.Core.List.{IsPrefix}
 use Rattle.sp_value.specs.Editions.{EditionParts}
-use Rattle.sp_publish.specs.Published.{Published, IsList, GoesOn, newest_in, with_edition, with_end}
-use Rattle.sp_publish.specs.Snapshot.{IsAt, IsNext}
+use Rattle.sp_publish.specs.Published.{PublishedList, IsList, ListGoesOn, newest_in, with_edition, with_end}
+use Rattle.sp_publish.specs.Snapshot.{IsNewestOf, HasOneMore}
 use Rattle.sp_publish.specs.Laws.{ListsNeverGoBack}
 use Rattle.sp_publish.proofs.Prefixes.{prefix_self, prefix_trans, prefix_get, prefix_length}
 
-pub goes_on_self : (x : Published) → GoesOn x x
+pub goes_on_self : (x : PublishedList) → ListGoesOn x x
 goes_on_self x = record { list = refl; editions = prefix_self x.editions; ended = λ _. refl }
 
-pub goes_on_trans : (x y z : Published) → GoesOn x y → GoesOn y z → GoesOn x z
+pub goes_on_trans : (x y z : PublishedList) → ListGoesOn x y → ListGoesOn y z → ListGoesOn x z
 goes_on_trans x y z p q = record {
   list = q.list ∙ p.list;
   editions = prefix_trans x.editions y.editions z.editions p.editions q.editions;
-  ended = λ e. let same : y ≡ x = p.ended e in q.ended (ap (λ (t : Published). t.ended) same ∙ e) ∙ same;
+  ended = λ e. let same : y ≡ x = p.ended e in q.ended (ap (λ (t : PublishedList). t.ended) same ∙ e) ∙ same;
 }
 
 seam : (es : List EditionParts) (e : EditionParts) → slice_get (es ++ e ∷ []) (length es) ≡ Some e
@@ -25,7 +25,7 @@ seam (x ∷ es) e = seam es e
 pub newest_more : (es : List EditionParts) (e : EditionParts) → slice_get (es ++ e ∷ []) (length (es ++ e ∷ []) - 1) ≡ Some e
 newest_more es e = subst (λ (n : ℕ). slice_get (es ++ e ∷ []) n ≡ Some e) (omega (arith, length-append es (e ∷ []))) (seam es e)
 
-pub at_edition : (p : Published) (e : EditionParts) → p.ended ≡ false → e.number ≡ length p.editions → IsList (with_edition p e) → IsAt (with_edition p e) e false
+pub at_edition : (p : PublishedList) (e : EditionParts) → p.ended ≡ false → e.number ≡ length p.editions → IsList (with_edition p e) → IsNewestOf (with_edition p e) e false
 at_edition p e fresh num known = record {
   newest = newest_more p.editions e;
   count = omega (arith, length-append p.editions (e ∷ []));
@@ -33,7 +33,7 @@ at_edition p e fresh num known = record {
   known = known;
 }
 
-pub at_end : (p : Published) (e : EditionParts) (ended : Bool) → IsAt p e ended → IsAt (with_end p) e true
+pub at_end : (p : PublishedList) (e : EditionParts) (ended : Bool) → IsNewestOf p e ended → IsNewestOf (with_end p) e true
 at_end p e ended at = record {
   newest = at.newest;
   count = at.count;
@@ -41,32 +41,32 @@ at_end p e ended at = record {
   known = record { some = at.known.some; numbered = at.known.numbered; of_one_task = at.known.of_one_task };
 }
 
-ended_self : (p : Published) → p.ended ≡ true → with_end p ≡ p
+ended_self : (p : PublishedList) → p.ended ≡ true → with_end p ≡ p
 ended_self p e = ap (λ (b : Bool). record p { ended = b }) (sym e)
 
-pub goes_on_next : (p w : Published) → IsNext p w → GoesOn p w
+pub goes_on_next : (p w : PublishedList) → HasOneMore p w → ListGoesOn p w
 goes_on_next p w (inl is) = record {
-  list = ap (λ (t : Published). t.list) is;
-  editions = subst (λ (t : Published). IsPrefix p.editions t.editions) (sym is) (prefix_self p.editions);
+  list = ap (λ (t : PublishedList). t.list) is;
+  editions = subst (λ (t : PublishedList). IsPrefix p.editions t.editions) (sym is) (prefix_self p.editions);
   ended = λ e. is ∙ ended_self p e;
 }
 goes_on_next p w (inr (x, fresh, is)) = record {
-  list = ap (λ (t : Published). t.list) is;
-  editions = subst (λ (t : Published). IsPrefix p.editions t.editions) (sym is) (x ∷ [], refl);
+  list = ap (λ (t : PublishedList). t.list) is;
+  editions = subst (λ (t : PublishedList). IsPrefix p.editions t.editions) (sym is) (x ∷ [], refl);
   ended = λ e. absurd (cc (fresh, e));
 }
 
 -- what waits is the list with this edition, where it has that as its newest one and isn't ended
-pub waits_edition : (p w : Published) (e : EditionParts) → IsNext p w → w.ended ≡ false → newest_in w ≡ Some e → w ≡ with_edition p e
-waits_edition p w e (inl is) fresh new = absurd (cc (fresh, ap (λ (t : Published). t.ended) is))
+pub waits_edition : (p w : PublishedList) (e : EditionParts) → HasOneMore p w → w.ended ≡ false → newest_in w ≡ Some e → w ≡ with_edition p e
+waits_edition p w e (inl is) fresh new = absurd (cc (fresh, ap (λ (t : PublishedList). t.ended) is))
 waits_edition p w e (inr (x, is_open, is)) fresh new =
-    let last : newest_in (with_edition p x) ≡ Some e = subst (λ (t : Published). newest_in t ≡ Some e) is new in
+    let last : newest_in (with_edition p x) ≡ Some e = subst (λ (t : PublishedList). newest_in t ≡ Some e) is new in
     let same : x ≡ e = cc (newest_more p.editions x, last) in is ∙ ap (λ (y : EditionParts). with_edition p y) same
 
 -- what waits is the list with its end mark, where that is ended
-pub waits_end : (p w : Published) → IsNext p w → p.ended ≡ false → w.ended ≡ true → w ≡ with_end p
+pub waits_end : (p w : PublishedList) → HasOneMore p w → p.ended ≡ false → w.ended ≡ true → w ≡ with_end p
 waits_end p w (inl is) fresh ended = is
-waits_end p w (inr (x, is_open, is)) fresh ended = absurd (cc (fresh, ended, ap (λ (t : Published). t.ended) is))
+waits_end p w (inr (x, is_open, is)) fresh ended = absurd (cc (fresh, ended, ap (λ (t : PublishedList). t.ended) is))
 
 -- the two newest editions of a list that goes on, by their numbers and tasks
 pub never_back : ListsNeverGoBack

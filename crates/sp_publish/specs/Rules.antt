@@ -2,16 +2,16 @@
 use Rattle.std.specs.Prelude.{ℕ, ◌≡◌, ◌==◌, true, List, [], ◌∷◌, ◌++◌, length, MatchBool}
 use Rattle.logbook.specs.Pages.{Cell, Step, View, Book, Named}
 use Rattle.sp_publish.specs.declared.item.Item.{Item}
-use Rattle.sp_publish.specs.Logs.{IsLegal}
+use Rattle.sp_publish.specs.Logs.{IsLegalLog}
 
 -- the first word is the number of entries, which are legal; the second one isn't used
-pub record IsKept (cells : List Cell) (log : List Item) : Type 0 where
+pub record IsKeptLog (cells : List Cell) (log : List Item) : Type 0 where
   pub words : cells ≡ (length log, true) ∷ (0, true) ∷ []
-  pub legal : IsLegal log
+  pub legal : IsLegalLog log
 
 abbrev pub head_of : Book → Named
 head_of b = record { tracked = true; key = 0; book = b }
 
 -- the item was added to all that had been seen; or the log was another, and was seen
 abbrev pub Adds : Step Item → View Item ℕ → ℕ → View Item ℕ → Type 0
-Adds s v found w = MatchBool (found == s.old) ((w.0 ≡ v.0 ++ s.ask ∷ []) × IsLegal w.0) ((length w.0 ≡ found) × IsLegal w.0)
+Adds s v found w = MatchBool (found == s.old) ((w.0 ≡ v.0 ++ s.ask ∷ []) × IsLegalLog w.0) ((length w.0 ≡ found) × IsLegalLog w.0)

@@ -4,28 +4,28 @@ use mathlib.Core.Option.{some}
 use lib.ListN.{get_elem?}
 use Rattle.logbook.specs.Pages.{Book}
 use Rattle.sp_value.specs.Editions.{EditionParts}
-use Rattle.sp_publish.specs.Published.{Published, GoesOn, IsList, newest_in, with_edition, with_end}
+use Rattle.sp_publish.specs.Published.{PublishedList, ListGoesOn, IsList, newest_in, with_edition, with_end}
 
 -- what was seen, if anything, is a beginning of the list
-abbrev pub Fits : Published → Option Published → Type 0
-Fits x None = Unit {0}
-Fits x (Some s) = GoesOn s x
+abbrev pub IsSeenBeginning : PublishedList → Option PublishedList → Type 0
+IsSeenBeginning x None = Unit {0}
+IsSeenBeginning x (Some s) = ListGoesOn s x
 
 -- each view is a beginning of the list that is shown
-abbrev pub Keeps : Published → List (Option Published) → Type 0
-Keeps x views = (seat : ℕ) (v : Option Published) → get_elem? views seat ≡ some v → Fits x v
+abbrev pub Keeps : PublishedList → List (Option PublishedList) → Type 0
+Keeps x views = (seat : ℕ) (v : Option PublishedList) → get_elem? views seat ≡ some v → IsSeenBeginning x v
 
 -- what a step sees is the list that is shown then, which goes on from what was seen
-abbrev pub Seeing : Option Published → Published → Published → Option Published → Type 0
-Seeing v x y w = (w ≡ Some y) × Fits y v
+abbrev pub Seeing : Option PublishedList → PublishedList → PublishedList → Option PublishedList → Type 0
+Seeing v x y w = (w ≡ Some y) × IsSeenBeginning y v
 
 -- something of this list was seen
-abbrev pub IsOfList : Book → Option Published → Type 0
+abbrev pub IsOfList : Book → Option PublishedList → Type 0
 IsOfList list None = ⊥
 IsOfList list (Some s) = s.list ≡ list
 
 -- the list with its newest edition, and whether it has ended
-pub record IsAt (p : Published) (e : EditionParts) (ended : Bool) : Type 0 where
+pub record IsNewestOf (p : PublishedList) (e : EditionParts) (ended : Bool) : Type 0 where
   pub newest : newest_in p ≡ Some e
   pub count : length p.editions ≡ e.number + 1
   pub ended_is : p.ended ≡ ended
@@ -33,9 +33,9 @@ pub record IsAt (p : Published) (e : EditionParts) (ended : Bool) : Type 0 where
 
 -- a published list, and the same list with the item that waits to be published, if one does
 pub record Drafted : Type 0 where
-  pub published : Published
-  pub waiting : Option Published
+  pub published : PublishedList
+  pub waiting : Option PublishedList
 
 -- the list has one item more
-abbrev pub IsNext : Published → Published → Type 0
-IsNext p w = (w ≡ with_end p) ⊎ ((e : EditionParts) × (p.ended ≡ false) × (w ≡ with_edition p e))
+abbrev pub HasOneMore : PublishedList → PublishedList → Type 0
+HasOneMore p w = (w ≡ with_end p) ⊎ ((e : EditionParts) × (p.ended ≡ false) × (w ≡ with_edition p e))

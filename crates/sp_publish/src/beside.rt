@@ -1,7 +1,7 @@
 //! Which list something belongs to, and work that is done beside the planners.
 
 ghost use Rattle.std.specs.Prelude.{◌≡◌, ◌+◌, ◌<◌, OnErr, OnOk};
-ghost use Rattle.sp_publish.specs.Published.{GoesOn};
+ghost use Rattle.sp_publish.specs.Published.{ListGoesOn};
 
 use crate::notice::Notice;
 use sp_dd::NoMemory;
@@ -29,7 +29,7 @@ impl ListName for Brand {
 /// Work in steps that is done beside the planners.
 pub trait Beside: Drop {
     ghost use Rattle.std.specs.Prelude.{ℕ};
-    ghost use Rattle.sp_publish.specs.Published.{Published};
+    ghost use Rattle.sp_publish.specs.Published.{PublishedList};
 
     /// What there is to do in all. No value of it is made.
     type Work;
@@ -38,7 +38,7 @@ pub trait Beside: Drop {
     ghost work: { Self → Self.Work };
 
     // What it knows of the list that it was made for.
-    ghost known: { Self → Published };
+    ghost known: { Self → PublishedList };
 
     // How many steps are left.
     ghost steps: { Self → ℕ };
@@ -55,7 +55,7 @@ pub trait Beside: Drop {
         requires left { 0 < steps self.old }
         requires list { told.now.list ≡ (known self.old).list }
         ensures work { work self.new ≡ work self.old }
-        ensures known { GoesOn (known self.old) (known self.new) }
+        ensures known { ListGoesOn (known self.old) (known self.new) }
         ensures ok { OnOk result (steps self.new + 1 ≡ steps self.old) }
         ensures err { OnErr result (steps self.new ≡ steps self.old) };
 }

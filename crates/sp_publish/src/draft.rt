@@ -2,7 +2,7 @@
 
 ghost use Rattle.std.specs.Prelude.{◌≡◌, length, false, IfOk, IsSome, None, OnOk, Some, unwrap_or};
 ghost use Rattle.std.specs.Arc.{arc_value};
-ghost use Rattle.sp_publish.specs.Published.{GoesOn, IsOfTask, with_edition, with_end};
+ghost use Rattle.sp_publish.specs.Published.{ListGoesOn, IsOfTask, with_edition, with_end};
 
 use crate::log::{Add, EndMark, Log};
 use crate::notice::Notice;
@@ -22,13 +22,13 @@ pub struct Draft {
 
 impl Model for Draft {
     ghost use Rattle.std.specs.Prelude.{◌≡◌, MatchOption};
-    ghost use Rattle.sp_publish.specs.Snapshot.{Drafted, IsNext};
+    ghost use Rattle.sp_publish.specs.Snapshot.{Drafted, HasOneMore};
 
     ghost Value = { Drafted };
 
     ghost view = { λ d. record { published = d.published; waiting = d.waiting } };
 
-    ghost invariant = { λ d. MatchOption d.waiting (d.log ≡ d.published) (λ w. (d.log ≡ w) × IsNext d.published w) };
+    ghost invariant = { λ d. MatchOption d.waiting (d.log ≡ d.published) (λ w. (d.log ≡ w) × HasOneMore d.published w) };
 }
 
 impl Draft {
@@ -93,7 +93,7 @@ impl Draft {
     pub fn next(&self) -> Result<Notice, NoMemory>
         requires { IsSome self.now.waiting }
         ensures waiting { IfOk result (λ n. self.now.waiting ≡ Some n) }
-        ensures next { IfOk result (λ n. GoesOn self.now.published n) }
+        ensures next { IfOk result (λ n. ListGoesOn self.now.published n) }
     {
         let Some(waiting) = &self.waiting else {
             unreachable!()

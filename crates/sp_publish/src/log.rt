@@ -1,7 +1,7 @@
 //! The log of a published list. It exists in proofs alone, but for its length.
 
 ghost use Rattle.std.specs.Prelude.{◌≡◌, ◌≤◌, [], None, OnOk, OnErr, false};
-ghost use Rattle.sp_publish.specs.Published.{GoesOn, IsList, size_of};
+ghost use Rattle.sp_publish.specs.Published.{ListGoesOn, IsList, size_of};
 ghost use Rattle.sp_publish.specs.Logs.{MayFollow, with_item};
 
 use crate::item::Item;
@@ -17,9 +17,9 @@ pub struct Law;
 impl Rule<Item, u64> for Law {
     ghost use Rattle.std.specs.Prelude.{[]};
     ghost use base.Fml.{ftrue};
-    ghost use Rattle.sp_publish.specs.Rules.{IsKept};
+    ghost use Rattle.sp_publish.specs.Rules.{IsKeptLog};
 
-    ghost holds = { λ cells log. IsKept cells log };
+    ghost holds = { λ cells log. IsKeptLog cells log };
 
     ghost first = { [] };
 
@@ -80,21 +80,21 @@ pub struct Front {
 }
 
 impl Model for Front {
-    ghost use Rattle.sp_publish.specs.Published.{Published};
-    ghost use Rattle.sp_publish.specs.Logs.{IsLegal, published_by};
+    ghost use Rattle.sp_publish.specs.Published.{PublishedList};
+    ghost use Rattle.sp_publish.specs.Logs.{IsLegalLog, published_by};
 
-    ghost Value = { Published };
+    ghost Value = { PublishedList };
 
     ghost view = { λ f. published_by f.seen.book f.seen.log };
 
-    ghost invariant = { λ f. IsLegal f.seen.log };
+    ghost invariant = { λ f. IsLegalLog f.seen.log };
 }
 
 impl Front {
-    ghost use Rattle.sp_publish.specs.Logs.{IsLegal, published_by};
+    ghost use Rattle.sp_publish.specs.Logs.{IsLegalLog, published_by};
 
     fn of(seen: Seen<Item, u64, Law>) -> Front
-        requires { IsLegal seen.log }
+        requires { IsLegalLog seen.log }
         ensures { result ≡ published_by seen.book seen.log }
     {
         Front { seen }
@@ -102,7 +102,7 @@ impl Front {
 
     fn seen(&self) -> Seen<Item, u64, Law>
         ensures told { published_by result.book result.log ≡ self.now }
-        ensures legal { IsLegal result.log }
+        ensures legal { IsLegalLog result.log }
     {
         self.seen.again()
     }
@@ -119,8 +119,8 @@ impl Front {
     /// Shows that of two fronts of one list the shorter one begins the longer. It does nothing when it runs.
     pub fn beside(&self, other: &Front)
         requires { other.now.list ≡ self.now.list }
-        ensures this { size_of self.now ≤ size_of other.now → GoesOn self.now other.now }
-        ensures that { size_of other.now ≤ size_of self.now → GoesOn other.now self.now }
+        ensures this { size_of self.now ≤ size_of other.now → ListGoesOn self.now other.now }
+        ensures that { size_of other.now ≤ size_of self.now → ListGoesOn other.now self.now }
     {
         let mut both = self.seen.again();
         both.learn(&other.seen);
@@ -137,10 +137,10 @@ pub struct Log {
 
 impl Model for Log {
     ghost use Rattle.std.specs.Prelude.{◌≡◌};
-    ghost use Rattle.sp_publish.specs.Published.{Published, size_of};
+    ghost use Rattle.sp_publish.specs.Published.{PublishedList, size_of};
     ghost use Rattle.sp_publish.specs.Rules.{head_of};
 
-    ghost Value = { Published };
+    ghost Value = { PublishedList };
 
     ghost view = { λ l. l.front };
 

@@ -2,8 +2,8 @@
 
 ghost use Rattle.std.specs.Prelude.{◌≡◌, ◌+◌, length, IfOk, IfSome, MatchBool, Some};
 ghost use Rattle.std.specs.Arc.{arc_value};
-ghost use Rattle.sp_publish.specs.Published.{GoesOn, IsList, newest_in};
-ghost use Rattle.sp_publish.specs.Snapshot.{IsAt};
+ghost use Rattle.sp_publish.specs.Published.{ListGoesOn, IsList, newest_in};
+ghost use Rattle.sp_publish.specs.Snapshot.{IsNewestOf};
 
 use crate::log::Front;
 use left_right::Absorb;
@@ -23,19 +23,19 @@ pub struct Notice {
 
 impl Model for Notice {
     ghost use Rattle.std.specs.Arc.{arc_value};
-    ghost use Rattle.sp_publish.specs.Published.{Published};
-    ghost use Rattle.sp_publish.specs.Snapshot.{IsAt};
+    ghost use Rattle.sp_publish.specs.Published.{PublishedList};
+    ghost use Rattle.sp_publish.specs.Snapshot.{IsNewestOf};
 
-    ghost Value = { Published };
+    ghost Value = { PublishedList };
 
     ghost view = { λ n. n.front };
 
-    ghost invariant = { λ n. IsAt n.front (arc_value n.edition) n.ended };
+    ghost invariant = { λ n. IsNewestOf n.front (arc_value n.edition) n.ended };
 }
 
 impl Notice {
     pub(crate) fn new(edition: Arc<Edition>, ended: bool, front: Front) -> Notice
-        requires { IsAt front (arc_value edition) ended }
+        requires { IsNewestOf front (arc_value edition) ended }
         ensures { result ≡ front }
     {
         Notice {
@@ -83,7 +83,7 @@ impl Notice {
     /// Whether the other tells more of the same list. Takes no memory.
     pub fn is_before(&self, other: &Notice) -> bool
         requires { other.now.list ≡ self.now.list }
-        ensures { MatchBool result (GoesOn self.now other.now) (GoesOn other.now self.now) }
+        ensures { MatchBool result (ListGoesOn self.now other.now) (ListGoesOn other.now self.now) }
     {
         self.front.beside(&other.front);
         let (mine, theirs) = (self.edition.number(), other.edition.number());
@@ -93,7 +93,7 @@ impl Notice {
     /// A copy of the other, where it tells more of the same list.
     pub(crate) fn later(&self, other: &Notice) -> Result<Option<Notice>, NoMemory>
         requires { other.now.list ≡ self.now.list }
-        ensures { IfOk result (λ o. IfSome o (λ n. GoesOn self.now n)) }
+        ensures { IfOk result (λ o. IfSome o (λ n. ListGoesOn self.now n)) }
     {
         if !self.is_before(other) {
             return Ok(None);

@@ -2,7 +2,7 @@
 
 ghost use Rattle.std.specs.Prelude.{◌≡◌, length, false, IfOk, IsSome, MatchOption, MatchResult, OnErr, OnOk, Some};
 ghost use Rattle.std.specs.Arc.{arc_value};
-ghost use Rattle.sp_publish.specs.Published.{GoesOn, IsOfTask, with_edition, with_end};
+ghost use Rattle.sp_publish.specs.Published.{ListGoesOn, IsOfTask, with_edition, with_end};
 
 use crate::draft::Draft;
 use crate::notice::Notice;
@@ -21,9 +21,9 @@ pub struct Publisher {
 
 impl Model for Publisher {
     ghost use Rattle.std.specs.Prelude.{◌≡◌, MatchOption};
-    ghost use Rattle.sp_publish.specs.Published.{Published};
+    ghost use Rattle.sp_publish.specs.Published.{PublishedList};
 
-    ghost Value = { Published };
+    ghost Value = { PublishedList };
 
     ghost view = { λ p. p.draft.published };
 
@@ -124,7 +124,7 @@ fn show_longer<R: Wait>(
     writer: SnapWriter,
     longer: Notice,
 ) -> (SnapWriter, Result<(), AllocError>)
-    requires { GoesOn writer.desk.shown.value longer }
+    requires { ListGoesOn writer.desk.shown.value longer }
     ensures { MatchResult result.1 (λ _. result.0.desk.shown.value ≡ longer) (λ _. result.0.desk.shown.value ≡ writer.desk.shown.value) }
 {
     let mut writer = writer;

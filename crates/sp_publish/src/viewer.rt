@@ -3,7 +3,7 @@
 ghost use Rattle.std.specs.Prelude.{◌≡◌, IfOk, OnErr, OnOk, Some};
 ghost use Rattle.std.specs.Arc.{arc_value};
 ghost use Rattle.left_right.specs.Sides.{view};
-ghost use Rattle.sp_publish.specs.Published.{GoesOn, IsList, newest_in};
+ghost use Rattle.sp_publish.specs.Published.{ListGoesOn, IsList, newest_in};
 ghost use Rattle.sp_publish.specs.Snapshot.{IsOfList};
 
 use crate::notice::Notice;
@@ -24,10 +24,10 @@ pub struct Viewer {
 impl Model for Viewer {
     ghost use Rattle.std.specs.Option.{ForSome};
     ghost use Rattle.left_right.specs.Sides.{view as view_of};
-    ghost use Rattle.sp_publish.specs.Published.{Published};
+    ghost use Rattle.sp_publish.specs.Published.{PublishedList};
     ghost use Rattle.sp_publish.specs.Snapshot.{IsOfList};
 
-    ghost Value = { Published };
+    ghost Value = { PublishedList };
 
     ghost view = { λ v. v.kept };
 
@@ -48,8 +48,8 @@ impl Viewer {
     /// Takes in a notice. From now on the viewer gives nothing older.
     pub fn learn(&mut self, told: &Notice) -> Result<(), NoMemory>
         requires { told.now.list ≡ self.old.list }
-        ensures goes_on { GoesOn self.old self.new }
-        ensures learned { OnOk result (GoesOn told.now self.new) }
+        ensures goes_on { ListGoesOn self.old self.new }
+        ensures learned { OnOk result (ListGoesOn told.now self.new) }
         ensures same { OnErr result (self.new ≡ self.old) }
     {
         if self.kept.is_before(told) {
@@ -61,7 +61,7 @@ impl Viewer {
     /// The newest edition that it knows of: the one that is published now, where it gets a reading, and none that is older than
     /// what it gave or learned before. What is known of a list keeps what `IsList` says.
     pub fn latest(&mut self) -> Result<Arc<Edition>, NoMemory>
-        ensures goes_on { GoesOn self.old self.new }
+        ensures goes_on { ListGoesOn self.old self.new }
         ensures newest { IfOk result (λ e. newest_in self.new ≡ Some (arc_value e)) }
         ensures known { OnOk result (IsList self.new) }
     {
@@ -81,7 +81,7 @@ impl Viewer {
 
     fn look(&mut self, reader: SnapReader) -> Result<(), NoMemory>
         requires { IsOfList self.old.list (view reader.place) }
-        ensures { GoesOn self.old self.new }
+        ensures { ListGoesOn self.old self.new }
     {
         match reader.enter_as::<Sees>() {
             Ok(reading) => {

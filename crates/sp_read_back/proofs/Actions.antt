@@ -6,8 +6,8 @@ use Rattle.sp_model.specs.declared.parts.Decl.{Decl}
 use Rattle.sp_model.specs.declared.parts.Factor.{Factor}
 use Rattle.sp_model.specs.declared.parts.Parts.{Parts}
 use Rattle.sp_model.specs.Problem.{no_decl, no_func, shape_of}
-use Rattle.sp_model.specs.Words.{IsName}
-use Rattle.sp_model.specs.Kept.{IsModel, IsMove, IsSight}
+use Rattle.sp_model.specs.Words.{IsModelName}
+use Rattle.sp_model.specs.Kept.{IsModel, IsTransitionTable, IsSight}
 use Rattle.sp_rows.specs.declared.tables.Table.TheVariants as table
 use Rattle.sp_rows.specs.Tables.{identity}
 use Rattle.sp_trees.specs.declared.env.Dd.{Dd}
@@ -17,7 +17,7 @@ use Rattle.sp_declarations.specs.Steps.{in_turn}
 use Rattle.sp_checks.specs.declared.roles.Role.TheVariants as role
 use Rattle.sp_checks.specs.declared.state.Draft.{Draft}
 use Rattle.sp_checks.specs.declared.state.State.{State}
-use Rattle.sp_checks.specs.Roles.{allowed}
+use Rattle.sp_checks.specs.Roles.{allowed_slots}
 use Rattle.sp_checks.specs.Accepted.{table_refusal}
 use Rattle.sp_checks.specs.Actions.{sight_step}
 use Rattle.sp_spelled.specs.Signs.{line}
@@ -128,7 +128,7 @@ module _ (p : Parts) (m : IsModel p) where
     pub count : length ds ≡ length fs
     pub within : i + length ds ≤ n p m
     pub decl : (k : ℕ) → k < length ds → get_or ds k no_decl ≡ get_or p.variables (i + k) no_decl
-    pub move : (k : ℕ) → k < length ds → IsMove (shape_of p) (i + k) (get_or fs k no_func)
+    pub move : (k : ℕ) → k < length ds → IsTransitionTable (shape_of p) (i + k) (get_or fs k no_func)
     pub func : (k : ℕ) → k < length ds → IsFunc (get_or fs k no_func)
 
   pub next_moves : (i : ℕ) (d : Decl) (ds : List Decl) (f : Func) (fs : List Func) → AreMovesOf i (d ∷ ds) (f ∷ fs) → AreMovesOf (suc i) ds fs
@@ -139,7 +139,7 @@ module _ (p : Parts) (m : IsModel p) where
         count = omega arith;
         within = omega arith;
         decl = λ k l. h.decl (suc k) (omega arith) ∙ (let e : i + suc k ≡ suc i + k = omega arith in ap (λ j. get_or p.variables j no_decl) e);
-        move = λ k l. subst (λ j. IsMove (shape_of p) j (get_or fs k no_func)) (let e : i + suc k ≡ suc i + k = omega arith in e) (h.move (suc k) (omega arith));
+        move = λ k l. subst (λ j. IsTransitionTable (shape_of p) j (get_or fs k no_func)) (let e : i + suc k ≡ suc i + k = omega arith in e) (h.move (suc k) (omega arith));
         func = λ k l. h.func (suc k) (omega arith);
       }
 
@@ -168,7 +168,7 @@ module _ (p : Parts) (m : IsModel p) where
   same_sight : (dds : List (List ℕ × Dd)) (j : ℕ) (d : Decl) → j < length p.sights → d ≡ get_or p.sights j no_decl → place_of (env_of p m dds) d.name ≡ Some (Sight j)
   same_sight dds j d l e = ap (λ (c : Decl). place_of (env_of p m dds) c.name) e ∙ sight_place p m dds j l
 
-  pub move_shown : (i : ℕ) (f : Func) → IsMove (shape_of p) i f → IsFunc f → IsShown p m f
+  pub move_shown : (i : ℕ) (f : Func) → IsTransitionTable (shape_of p) i f → IsFunc f → IsShown p m f
   move_shown i f is func = table_shown p m f is.shape is.probability func
 
   pub sight_shown : (j : ℕ) (f : Func) → IsSight (shape_of p) j f → IsFunc f → IsShown p m f
@@ -177,14 +177,14 @@ module _ (p : Parts) (m : IsModel p) where
   -- ---- each line
   module _ (action : ℕ) (all : List Dd) (fits : length all ≤ 2 ^ 64) where
     pub is_line : (r : _) (before after : List Dd) (base : ℕ) (f : Func) → IsShown p m f → MayMention p m r f → length before ≡ base → all ≡ before ++ (dds_for p m f ++ after)
-        → WritesTree (env_with p m all) (allowed (shape_of p) r) (dd_for p m f) 1 (function_signs base line f)
+        → WritesTree (env_with p m all) (allowed_slots (shape_of p) r) (dd_for p m f) 1 (function_signs base line f)
     is_line r before after base f shown may at e =
         let long = length-append before (dds_for p m f ++ after) in
         let more = length-append (dds_for p m f) after in
         let one = count_for p m f in
         let same = ap (λ (l : List Dd). length l) e in
-        subst (λ ds. WritesTree (env_with p m ds) (allowed (shape_of p) r) (dd_for p m f) 1 (function_signs base line f)) (sym e)
-        (subst (λ b. WritesTree (env_with p m (before ++ (dds_for p m f ++ after))) (allowed (shape_of p) r) (dd_for p m f) 1 (function_signs b line f)) at
+        subst (λ ds. WritesTree (env_with p m ds) (allowed_slots (shape_of p) r) (dd_for p m f) 1 (function_signs base line f)) (sym e)
+        (subst (λ b. WritesTree (env_with p m (before ++ (dds_for p m f ++ after))) (allowed_slots (shape_of p) r) (dd_for p m f) 1 (function_signs b line f)) at
         (writes_function p m r before after f line shown may (omega arith)))
 
     pub moves_lines : (base i : ℕ) (before after : List Dd) (ds : List Decl) (fs : List Func) → AreMovesOf i ds fs → length before ≡ base → all ≡ before ++ (dds_all (tables_of (moving_tables (shape_of p) i ds fs)) ++ after)
@@ -201,8 +201,8 @@ module _ (p : Parts) (m : IsModel p) where
         within : i < n p m
         within = let w = h.within in omega arith
 
-        is : IsMove (shape_of p) i f
-        is = subst (λ j. IsMove (shape_of p) j f) here (h.move 0 (omega arith))
+        is : IsTransitionTable (shape_of p) i f
+        is = subst (λ j. IsTransitionTable (shape_of p) j f) here (h.move 0 (omega arith))
 
         decl_is : d ≡ get_or p.variables i no_decl
         decl_is = h.decl 0 (omega arith) ∙ ap (λ j. get_or p.variables j no_decl) here
@@ -218,7 +218,7 @@ module _ (p : Parts) (m : IsModel p) where
             let known = m.variables i no_decl within in
             let shown = move_shown i f is (h.func 0 (omega arith)) in (
               record {
-                name = named d.name (subst (λ (c : Decl). IsName c.name) (sym decl_is) known.name);
+                name = named d.name (subst (λ (c : Decl). IsModelName c.name) (sym decl_is) known.name);
                 place = same_name (all_dds p m all) i d within decl_is;
                 writes = is_line (role.Table (table.Move i)) before (dds_all (tables_of (moving_tables (shape_of p) (suc i) ds fs)) ++ after) base f shown (move_mentions p m i f is) at apart;
                 sound = λ place. ap (λ g. table_refusal (n p m) action (table.Move i) place g) (means_it p m f shown) ∙ lawful.sound_move (shape_of p) (scope_is p m) (n p m) action i place f is;
@@ -242,7 +242,7 @@ module _ (p : Parts) (m : IsModel p) where
         let long = length-append before (dds_for p m f) in
         let one = count_for p m f in (
           record {
-            name = named d.name (subst (λ (c : Decl). IsName c.name) (sym decl_is) known.name);
+            name = named d.name (subst (λ (c : Decl). IsModelName c.name) (sym decl_is) known.name);
             place = same_sight (all_dds p m all) j d within decl_is;
             writes = is_line (role.Table (table.Sight j)) before (dds_all (tables_of (named_tables ds fs)) ++ after) base f shown (sight_mentions p m j f is) at apart;
             sound = λ place. ap (λ g. table_refusal (n p m) action (table.Sight j) place g) (means_it p m f shown) ∙ lawful.sound_sight (shape_of p) (scope_is p m) (n p m) action j place f is;
@@ -258,8 +258,8 @@ module _ (p : Parts) (m : IsModel p) where
   moves_told base i (d ∷ ds) [] h = let count = h.count in absurd (omega arith)
   moves_told base i (d ∷ ds) (f ∷ fs) h = go (is_identity (shape_of p) i f) refl (moves_told base (suc i) ds fs (next_moves i d ds f fs h)) (moves_told (base + line_count f) (suc i) ds fs (next_moves i d ds f fs h))
     where
-      is : IsMove (shape_of p) i f
-      is = subst (λ j. IsMove (shape_of p) j f) (let e : i + 0 ≡ i = omega arith in e) (h.move 0 (omega arith))
+      is : IsTransitionTable (shape_of p) i f
+      is = subst (λ j. IsTransitionTable (shape_of p) j f) (let e : i + 0 ≡ i = omega arith in e) (h.move 0 (omega arith))
 
       go : (b : Bool) → is_identity (shape_of p) i f ≡ b → AreTables (shape_of p) (suc i) (map move_table (move_lines base (suc i) ds fs)) fs → AreTables (shape_of p) (suc i) (map move_table (move_lines (base + line_count f) (suc i) ds fs)) fs
           → AreTables (shape_of p) i (map move_table (cond b (None ∷ move_lines base (suc i) ds fs) (Some (line_of base d f) ∷ move_lines (base + line_count f) (suc i) ds fs))) (f ∷ fs)

@@ -10,7 +10,7 @@ use Rattle.sp_model.specs.declared.parts.Factor.{Factor}
 use Rattle.sp_model.specs.declared.parts.ActionPart.{ActionPart}
 use Rattle.sp_model.specs.declared.parts.Parts.{Parts}
 use Rattle.sp_model.specs.Problem.{no_decl, no_func, shape_of}
-use Rattle.sp_model.specs.Kept.{IsModel, IsAction, IsMove, IsSight}
+use Rattle.sp_model.specs.Kept.{IsModel, IsAction, IsTransitionTable, IsSight}
 use Rattle.sp_names.specs.Names.{with_name}
 use Rattle.sp_trees.specs.declared.refusal.ModelKind.TheVariants as kind
 use Rattle.sp_trees.specs.declared.env.Dd.{Dd}
@@ -45,8 +45,8 @@ module _ (p : Parts) (m : IsModel p) where
   shown_moves i (d ∷ ds) [] h = tt
   shown_moves i (d ∷ ds) (f ∷ fs) h = go (is_identity (shape_of p) i f) (shown_moves (suc i) ds fs (next_moves p m i d ds f fs h))
     where
-      is : IsMove (shape_of p) i f
-      is = subst (λ j. IsMove (shape_of p) j f) (let e : i + 0 ≡ i = omega arith in e) (h.move 0 (omega arith))
+      is : IsTransitionTable (shape_of p) i f
+      is = subst (λ j. IsTransitionTable (shape_of p) j f) (let e : i + 0 ≡ i = omega arith in e) (h.move 0 (omega arith))
 
       go : (b : Bool) → AreShown p m (tables_of (moving_tables (shape_of p) (suc i) ds fs)) → AreShown p m (tables_of (cond b (moving_tables (shape_of p) (suc i) ds fs) (record { name = d.name; table = f } ∷ moving_tables (shape_of p) (suc i) ds fs)))
       go true rest = rest
@@ -89,7 +89,7 @@ module _ (p : Parts) (m : IsModel p) where
           count = sym count;
           within = omega arith;
           decl = λ k l. (let e : k ≡ 0 + k = omega arith in ap (λ j. get_or p.variables j no_decl) e);
-          move = λ k l. subst (λ j. IsMove (shape_of p) j (get_or a.moves k no_func)) (let e : k ≡ 0 + k = omega arith in e) (is.moves k l);
+          move = λ k l. subst (λ j. IsTransitionTable (shape_of p) j (get_or a.moves k no_func)) (let e : k ≡ 0 + k = omega arith in e) (is.moves k l);
           func = λ k l. h.moves k no_func (omega arith);
         }
 

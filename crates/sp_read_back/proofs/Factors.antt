@@ -17,7 +17,7 @@ use Rattle.sp_trees.proofs.ConditionLemmas.{range_all}
 use Rattle.sp_declarations.specs.Steps.{in_turn}
 use Rattle.sp_checks.specs.declared.roles.Role.TheVariants as role
 use Rattle.sp_checks.specs.declared.state.State.{State}
-use Rattle.sp_checks.specs.Roles.{allowed}
+use Rattle.sp_checks.specs.Roles.{allowed_slots}
 use Rattle.sp_checks.specs.Initial.{value_refusal}
 use Rattle.sp_checks.specs.Sections.{section}
 use Rattle.sp_spelled.specs.Signs.{line, Spelled}
@@ -82,7 +82,7 @@ module _ (p : Parts) (m : IsModel p) where
   all_shown (f ∷ fs) h = (table_shown p m f.func h.0.0.shape h.0.0.probability h.0.1, all_shown fs h.1)
 
   factors_written : (all before after : List Dd) (base : ℕ) (fs : List Factor) → AreGood fs → length all ≤ 2 ^ 64 → length before ≡ base → all ≡ before ++ (dds_all p m (factor_tables fs) ++ after)
-      → AreWritten (env_with p m all) (allowed (shape_of p) role.Init) 4 (factor_list base fs) (factor_dds fs)
+      → AreWritten (env_with p m all) (allowed_slots (shape_of p) role.Init) 4 (factor_list base fs) (factor_dds fs)
   factors_written all before after base [] h fits at e = tt
   factors_written all before after base (f ∷ fs) h fits at e =
       let rest : List Dd = dds_all p m (factor_tables fs) ++ after in
@@ -92,8 +92,8 @@ module _ (p : Parts) (m : IsModel p) where
       let count = count_for p m f.func in
       let whole = ap (λ (l : List Dd). length l) apart in
       let next = length-append before (dds_for p m f.func) in (
-        subst (λ ds. WritesTree (env_with p m ds) (allowed (shape_of p) role.Init) (factor_dd f) 4 (summed_signs p base (shown.gap_before fs) f.func (free_variables f))) (sym apart)
-            (subst (λ b. WritesTree (env_with p m (before ++ (dds_for p m f.func ++ (dds_all p m (factor_tables fs) ++ after)))) (allowed (shape_of p) role.Init) (factor_dd f) 4 (summed_signs p b (shown.gap_before fs) f.func (free_variables f))) at
+        subst (λ ds. WritesTree (env_with p m ds) (allowed_slots (shape_of p) role.Init) (factor_dd f) 4 (summed_signs p base (shown.gap_before fs) f.func (free_variables f))) (sym apart)
+            (subst (λ b. WritesTree (env_with p m (before ++ (dds_for p m f.func ++ (dds_all p m (factor_tables fs) ++ after)))) (allowed_slots (shape_of p) role.Init) (factor_dd f) 4 (summed_signs p b (shown.gap_before fs) f.func (free_variables f))) at
             (factor_written p m before (dds_all p m (factor_tables fs) ++ after) f (free_variables f) (shown.gap_before fs) h.0.0 h.0.1
             (filtered (λ i. not (is_on (node_list f.func) (2 * i))) (λ i. i < n p m) f.own h.0.0.within) (omega arith))),
         factors_written all (before ++ dds_for p m f.func) after (base + line_count f.func) fs h.1 fits (omega arith) (apart ∙ sym (append_assoc before (dds_for p m f.func) (dds_all p m (factor_tables fs) ++ after))),

@@ -21,7 +21,7 @@ use Rattle.sp_trees.specs.Nodes.{values_of}
 use Rattle.sp_checks.specs.declared.roles.Role.{Role}
 use Rattle.sp_checks.specs.declared.state.State.{State}
 use Rattle.sp_checks.specs.declared.state.Draft.{Draft}
-use Rattle.sp_checks.specs.Roles.{allowed, may_mention}
+use Rattle.sp_checks.specs.Roles.{allowed_slots, may_mention}
 use Rattle.sp_spelled.specs.Signs.{Gap, tight, space, Spelled}
 use Rattle.sp_spelled.specs.Shapes.{group, primed_group, spaced_word, last_word}
 use Rattle.sp_spelled.specs.Words.{dd_name}
@@ -130,16 +130,16 @@ module _ (p : Parts) (m : IsModel p) where
   all_nodes P (n ∷ ns) h zero d l = h 0 (omega arith)
   all_nodes P (n ∷ ns) h (suc k) d l = all_nodes P ns (λ j o. h (suc j) (omega arith)) k d (omega arith)
 
-  node_allowed : (r : Role) (f : Func) → IsShown f → MayMention r f → All (λ (k : Node). has (allowed (shape_of p) r) k.slot ≡ true) (node_list f)
-  node_allowed r f is may = all_nodes (λ (k : Node). has (allowed (shape_of p) r) k.slot ≡ true) (node_list f) (λ k l.
+  node_allowed : (r : Role) (f : Func) → IsShown f → MayMention r f → All (λ (k : Node). has (allowed_slots (shape_of p) r) k.slot ≡ true) (node_list f)
+  node_allowed r f is may = all_nodes (λ (k : Node). has (allowed_slots (shape_of p) r) k.slot ≡ true) (node_list f) (λ k l.
       (let scope : IsScope f.shape = subst IsScope (sym is.shape) (scope_is p m) in
       let made = (func_made f).ordered in
       let within : (node_at (node_list f) k).slot < length (shape_of p).sizes = subst (λ (t : Shape). (node_at (node_list f) k).slot < length t.sizes) is.shape (made.slots k l) in
       where_has (may_mention (length p.variables) r) (length (shape_of p).sizes) (node_at (node_list f) k).slot within
       (may (node_at (node_list f) k).slot within (depends_on f (node_at (node_list f) k).slot scope (record { place = k; within = l; is = refl })))))
 
-  pub among : (r : Role) (f : Func) → IsShown f → MayMention r f → All (λ (d : Dd). is_among d.mentions (allowed (shape_of p) r) ≡ true) (dds_for f)
-  among r f is may = nodes_among no_dds (scope_is p m) (allowed (shape_of p) r) [] (node_list f) (λ k d l. absurd (omega arith)) (node_allowed r f is may)
+  pub among : (r : Role) (f : Func) → IsShown f → MayMention r f → All (λ (d : Dd). is_among d.mentions (allowed_slots (shape_of p) r) ≡ true) (dds_for f)
+  among r f is may = nodes_among no_dds (scope_is p m) (allowed_slots (shape_of p) r) [] (node_list f) (λ k d l. absurd (omega arith)) (node_allowed r f is may)
 
   -- ---- where it is used
   abbrev no_state : State
@@ -158,9 +158,9 @@ module _ (p : Parts) (m : IsModel p) where
           omega arith
 
   pub writes_function : (r : Role) (before after : List Dd) (f : Func) (g : Gap) → IsShown f → MayMention r f → length before + line_count f + length after ≤ 2 ^ 64
-      → WritesTree (env_with (before ++ (dds_for f ++ after))) (allowed (shape_of p) r) (dd_for f) 1 (function_signs (length before) g f)
+      → WritesTree (env_with (before ++ (dds_for f ++ after))) (allowed_slots (shape_of p) r) (dd_for f) 1 (function_signs (length before) g f)
   writes_function r before after f g is may few =
       let count = count_for f in
-      subst (λ us. WritesTree (env_with (before ++ (dds_for f ++ after))) (allowed (shape_of p) r) (dd_for f) 1 us) (sym (parts_same [] [] None None None (length before) g (root_part f)))
-      (writes_use dd_name dd_names decimal_of (said_of p m) no_state (scope_is p m) (allowed (shape_of p) r) (before ++ (dds_for f ++ after)) (length before) (dds_for f) (root_part f) g
+      subst (λ us. WritesTree (env_with (before ++ (dds_for f ++ after))) (allowed_slots (shape_of p) r) (dd_for f) 1 us) (sym (parts_same [] [] None None None (length before) g (root_part f)))
+      (writes_use dd_name dd_names decimal_of (said_of p m) no_state (scope_is p m) (allowed_slots (shape_of p) r) (before ++ (dds_for f ++ after)) (length before) (dds_for f) (root_part f) g
       (has_within dd_name dd_names decimal_of (said_of p m) no_state (scope_is p m) before (dds_for f) after (omega arith)) (among r f is may) (root_so f is))

@@ -23,10 +23,10 @@ use Rattle.sp_trees.specs.declared.env.Dd.{Dd}
 use Rattle.sp_trees.specs.declared.nodes.Place.TheVariants.{Variable}
 use Rattle.sp_trees.specs.Slots.{none, one, union, has}
 use Rattle.sp_trees.specs.Conditions.{is_within}
-use Rattle.sp_trees.specs.Lists.{most}
+use Rattle.sp_trees.specs.Lists.{greatest_partial}
 use Rattle.sp_trees.proofs.SlotLemmas.{has_one, has_union, has_none}
 use Rattle.sp_checks.specs.declared.roles.Role.TheVariants as role
-use Rattle.sp_checks.specs.Roles.{allowed, may_mention}
+use Rattle.sp_checks.specs.Roles.{allowed_slots, may_mention}
 use Rattle.sp_syntax.specs.Grammar.{IsTree}
 use Rattle.sp_spelled.specs.Signs.{Gap, tight, space, Spelled}
 use Rattle.sp_spelled.specs.Shapes.{leaf, group, sum_group}
@@ -120,7 +120,7 @@ module _ (p : Parts) (m : IsModel p) where
   all_add_nothing f (i ∷ own) is = (adds_nothing f i is, all_add_nothing f own is)
 
   -- ---- as they are spelled
-  init_has : (i : ℕ) → i < n p m → has (allowed (shape_of p) role.Init) (2 * i) ≡ true
+  init_has : (i : ℕ) → i < n p m → has (allowed_slots (shape_of p) role.Init) (2 * i) ≡ true
   init_has i l =
       let count = slots_count p m in
       let even : (2 * i) % 2 ≡ 0 = omega arith in
@@ -130,23 +130,23 @@ module _ (p : Parts) (m : IsModel p) where
       below : (a b : ℕ) → a < b → nat_lt a b ≡ true
       below a b h = grind (arith, nat_tests)
 
-  leaves_written : (dds : List (List ℕ × Dd)) (xs : List (List ℕ)) → AreWritten (env_of p m dds) (allowed (shape_of p) role.Init) 1 (map (λ (x : List ℕ). leaf (decimal_of (pos 0)) tight) xs) (zeros xs)
+  leaves_written : (dds : List (List ℕ × Dd)) (xs : List (List ℕ)) → AreWritten (env_of p m dds) (allowed_slots (shape_of p) role.Init) 1 (map (λ (x : List ℕ). leaf (decimal_of (pos 0)) tight) xs) (zeros xs)
   leaves_written dds [] = tt
-  leaves_written dds (x ∷ xs) = (writes_number (env_of p m dds) (allowed (shape_of p) role.Init) (decimal_of (pos 0)) (pos 0) tight (decimal_spells (pos 0) (omega arith)), leaves_written dds xs)
+  leaves_written dds (x ∷ xs) = (writes_number (env_of p m dds) (allowed_slots (shape_of p) role.Init) (decimal_of (pos 0)) (pos 0) tight (decimal_spells (pos 0) (omega arith)), leaves_written dds xs)
 
-  zero_written : (dds : List (List ℕ × Dd)) (i : ℕ) (g : Gap) → i < n p m → WritesTree (env_of p m dds) (allowed (shape_of p) role.Init) (zero_for i) 3 (zero_node g (get_or p.variables i no_decl))
+  zero_written : (dds : List (List ℕ × Dd)) (i : ℕ) (g : Gap) → i < n p m → WritesTree (env_of p m dds) (allowed_slots (shape_of p) role.Init) (zero_for i) 3 (zero_node g (get_or p.variables i no_decl))
   zero_written dds i g l = go (get_or p.variables i no_decl).values refl
     where
       is : IsDecl (get_or p.variables i no_decl)
       is = m.variables i no_decl l
 
-      go : (vs : List (List ℕ)) → (get_or p.variables i no_decl).values ≡ vs → WritesTree (env_of p m dds) (allowed (shape_of p) role.Init) (zero_for i) 3 (zero_node g (get_or p.variables i no_decl))
+      go : (vs : List (List ℕ)) → (get_or p.variables i no_decl).values ≡ vs → WritesTree (env_of p m dds) (allowed_slots (shape_of p) role.Init) (zero_for i) 3 (zero_node g (get_or p.variables i no_decl))
       go [] e = let some = is.some in let none : length (get_or p.variables i no_decl).values ≡ 0 = ap (λ (l : List (List ℕ)). length l) e in absurd (omega arith)
       go (v ∷ vs) e =
-          subst (λ ws. WritesTree (env_of p m dds) (allowed (shape_of p) role.Init) (branched_dd (no_dds p m) (2 * i) (zeros ws)) 3 (group (get_or p.variables i no_decl).name (shown.branch_signs (get_or p.variables i no_decl).values (map (λ (x : List ℕ). leaf (decimal_of (pos 0)) tight) ws)) g)) (sym e)
-          (subst (λ us. WritesTree (env_of p m dds) (allowed (shape_of p) role.Init) (branched_dd (no_dds p m) (2 * i) (zeros (v ∷ vs))) 3 (group (get_or p.variables i no_decl).name us g))
+          subst (λ ws. WritesTree (env_of p m dds) (allowed_slots (shape_of p) role.Init) (branched_dd (no_dds p m) (2 * i) (zeros ws)) 3 (group (get_or p.variables i no_decl).name (shown.branch_signs (get_or p.variables i no_decl).values (map (λ (x : List ℕ). leaf (decimal_of (pos 0)) tight) ws)) g)) (sym e)
+          (subst (λ us. WritesTree (env_of p m dds) (allowed_slots (shape_of p) role.Init) (branched_dd (no_dds p m) (2 * i) (zeros (v ∷ vs))) 3 (group (get_or p.variables i no_decl).name us g))
           (sym (branches_same (get_or p.variables i no_decl).values (map (λ (x : List ℕ). leaf (decimal_of (pos 0)) tight) (v ∷ vs))))
-          (writes_node (env_of p m dds) (allowed (shape_of p) role.Init) (get_or p.variables i no_decl).name (Variable i) (2 * i) 1 (map (λ (x : List ℕ). leaf (decimal_of (pos 0)) tight) (v ∷ vs)) zero_dd (zeros vs) g
+          (writes_node (env_of p m dds) (allowed_slots (shape_of p) role.Init) (get_or p.variables i no_decl).name (Variable i) (2 * i) 1 (map (λ (x : List ℕ). leaf (decimal_of (pos 0)) tight) (v ∷ vs)) zero_dd (zeros vs) g
           (named (get_or p.variables i no_decl).name is.name) (numbered_values (get_or p.variables i no_decl).values is.values is.different)
           (ap (λ (l : List (List ℕ)). length l) e ∙ ap suc (sym (length-map vs (λ (x : List ℕ). zero_dd)))) (leaves_written dds (v ∷ vs))
           (record { place = variable_place p m dds i l; slot_is = refl; sayable = refl; mention = init_has i l })))
@@ -159,7 +159,7 @@ module _ (p : Parts) (m : IsModel p) where
   zero_list_is [] = refl
   zero_list_is (i ∷ own) = ap (λ us. zero_node (shown.gap_before own) (get_or p.variables i no_decl) ++ us) (zero_list_is own)
 
-  zeros_written : (dds : List (List ℕ × Dd)) (own : List ℕ) → All (λ i. i < n p m) own → AreWritten (env_of p m dds) (allowed (shape_of p) role.Init) 3 (zero_list own) (zero_dds own)
+  zeros_written : (dds : List (List ℕ × Dd)) (own : List ℕ) → All (λ i. i < n p m) own → AreWritten (env_of p m dds) (allowed_slots (shape_of p) role.Init) 3 (zero_list own) (zero_dds own)
   zeros_written dds [] h = tt
   zeros_written dds (i ∷ own) h = (zero_written dds i (shown.gap_before own) (h 0 0 (omega arith)), zeros_written dds own (λ k d l. h (suc k) d (omega arith)))
 
@@ -177,22 +177,22 @@ module _ (p : Parts) (m : IsModel p) where
   summed_has f (j ∷ free) i =
       all_zeros (union none (dd_for p m f).mentions) (j ∷ free) i ∙ ap (λ b. b || is_in (j ∷ free) i) (has_union none (dd_for p m f).mentions (2 * i) ∙ ap (λ b. b || has (dd_for p m f).mentions (2 * i)) (has_none (2 * i)))
 
-  within_most : (f : Factor) → IsFactor (shape_of p) f → IsFunc f.func → is_within most (dd_for p m f.func).func ≡ true
+  within_most : (f : Factor) → IsFactor (shape_of p) f → IsFunc f.func → is_within greatest_partial (dd_for p m f.func).func ≡ true
   within_most f is func =
       let shown = table_shown p m f.func is.shape is.probability func in
-      ap (λ g. is_within most g) (means_it p m f.func shown)
-      ∙ small_true most f.func (subst IsScope (sym is.shape) (scope_is p m)) (λ x q. (let b = is.probability x q in let low = b.0 in let high = b.1 in ((omega (arith, ints)), (omega (arith, ints)))))
+      ap (λ g. is_within greatest_partial g) (means_it p m f.func shown)
+      ∙ small_true greatest_partial f.func (subst IsScope (sym is.shape) (scope_is p m)) (λ x q. (let b = is.probability x q in let low = b.0 in let high = b.1 in ((omega (arith, ints)), (omega (arith, ints)))))
 
   pub factor_written : (before after : List Dd) (f : Factor) (free : List ℕ) (g : Gap) → IsFactor (shape_of p) f → IsFunc f.func → All (λ i. i < n p m) free → length before + length (node_list f.func) + length after ≤ 2 ^ 64
-      → WritesTree (env_with p m (before ++ (dds_for p m f.func ++ after))) (allowed (shape_of p) role.Init) (summed_dd f.func free) 4 (summed_signs p (length before) g f.func free)
+      → WritesTree (env_with p m (before ++ (dds_for p m f.func ++ after))) (allowed_slots (shape_of p) role.Init) (summed_dd f.func free) 4 (summed_signs p (length before) g f.func free)
   factor_written before after f [] g is func own few =
-      deeper IsTree (Means (env_with p m (before ++ (dds_for p m f.func ++ after))) (allowed (shape_of p) role.Init) (dd_for p m f.func)) _ 1 4 (omega arith)
+      deeper IsTree (Means (env_with p m (before ++ (dds_for p m f.func ++ after))) (allowed_slots (shape_of p) role.Init) (dd_for p m f.func)) _ 1 4 (omega arith)
       (writes_function p m role.Init before after f.func g (table_shown p m f.func is.shape is.probability func) (init_mentions p m f is) few)
   factor_written before after f (i ∷ free) g is func own few =
       let shown = table_shown p m f.func is.shape is.probability func in
-      subst (λ us. WritesTree (env_with p m (before ++ (dds_for p m f.func ++ after))) (allowed (shape_of p) role.Init) (summed_dd f.func (i ∷ free)) 4 (sum_group us g)) (ap (λ us. function_signs (length before) space f.func ++ us) (zero_list_is (i ∷ free)))
-      (writes_sum (env_with p m (before ++ (dds_for p m f.func ++ after))) (allowed (shape_of p) role.Init) 3 (function_signs (length before) space f.func ∷ zero_list (i ∷ free)) (dd_for p m f.func) (zero_dds (i ∷ free)) g (
-        deeper IsTree (Means (env_with p m (before ++ (dds_for p m f.func ++ after))) (allowed (shape_of p) role.Init) (dd_for p m f.func)) _ 1 3 (omega arith)
+      subst (λ us. WritesTree (env_with p m (before ++ (dds_for p m f.func ++ after))) (allowed_slots (shape_of p) role.Init) (summed_dd f.func (i ∷ free)) 4 (sum_group us g)) (ap (λ us. function_signs (length before) space f.func ++ us) (zero_list_is (i ∷ free)))
+      (writes_sum (env_with p m (before ++ (dds_for p m f.func ++ after))) (allowed_slots (shape_of p) role.Init) 3 (function_signs (length before) space f.func ∷ zero_list (i ∷ free)) (dd_for p m f.func) (zero_dds (i ∷ free)) g (
+        deeper IsTree (Means (env_with p m (before ++ (dds_for p m f.func ++ after))) (allowed_slots (shape_of p) role.Init) (dd_for p m f.func)) _ 1 3 (omega arith)
             (writes_function p m role.Init before after f.func space shown (init_mentions p m f is) few),
         zeros_written _ (i ∷ free) own,
       )

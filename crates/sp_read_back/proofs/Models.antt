@@ -19,7 +19,7 @@ use Rattle.sp_declarations.specs.Declarations.{declarations, variable_limits, si
 use Rattle.sp_checks.specs.declared.roles.Role.TheVariants as role
 use Rattle.sp_checks.specs.declared.state.Draft.{Draft}
 use Rattle.sp_checks.specs.declared.state.State.{State}
-use Rattle.sp_checks.specs.Roles.{allowed}
+use Rattle.sp_checks.specs.Roles.{allowed_slots}
 use Rattle.sp_checks.specs.Sections.{section}
 use Rattle.sp_checks.specs.Finish.{finish}
 use Rattle.sp_spelled.specs.Signs.{line, Spelled}
@@ -151,7 +151,7 @@ module _ (p : Parts) (m : IsModel p) where
         (in_depth _ _ _ 3 (omega arith) (subst (λ b. Leads (at_dds p m [] [] (Some p.init) None None first_dds) acted_state 3 (actions_signs p b p.actions)) (all_count p m (factor_tables p.init)) acted.leads))
         (leads_both acted_state paid_state last_state 5 reward_signs (discount_signs p.discount)
         (in_depth acted_state paid_state reward_signs 1 (omega arith)
-        (leads_reward acted_state (constant_dd (no_dds p m) (pos 0)) _ 1 refl (writes_number (env_with p m acted.dds) (allowed (shape_of p) role.Reward) (decimal_of (pos 0)) (pos 0) line (decimal_spells (pos 0) (omega arith)))))
+        (leads_reward acted_state (constant_dd (no_dds p m) (pos 0)) _ 1 refl (writes_number (env_with p m acted.dds) (allowed_slots (shape_of p) role.Reward) (decimal_of (pos 0)) (pos 0) line (decimal_spells (pos 0) (omega arith)))))
         (in_depth paid_state last_state (discount_signs p.discount) 0 (omega arith) (leads_discount paid_state (decimal_of (pos p.discount)) p.discount refl (decimal_spells (pos p.discount) (omega arith)) m.discount))))
 
     whole : (end : ℕ) → finish last_state end ≡ Ok p

@@ -6,7 +6,7 @@ use Rattle.std.proofs.lemmas.Bool.{false≢true}
 use Rattle.std.proofs.lemmas.Bool.Decides.{nat_tests, Decides-eqb}
 use Rattle.sp_dd.specs.NodeLists.{Node}
 use Rattle.sp_dd.specs.Ordered.{node_at}
-use Rattle.sp_model.specs.Kept.{Rises}
+use Rattle.sp_model.specs.Kept.{NumbersRise}
 use Rattle.sp_written.proofs.Init.{is_in, RisesFrom, EndsBelow}
 
 pub contains_in : (xs : List ℕ) (i : ℕ) → Contains xs i → is_in xs i ≡ true
@@ -65,7 +65,7 @@ in_both (x ∷ xs) ys i = ap (λ b. (x == i) || b) (in_both xs ys i) ∙ sym (as
     assoc true b c = refl
     assoc false b c = refl
 
-pub rises_from : (a : ℕ) (xs : List ℕ) → ((k : ℕ) → k < length xs → a ≤ get_or xs k 0) → Rises xs → RisesFrom a xs
+pub rises_from : (a : ℕ) (xs : List ℕ) → ((k : ℕ) → k < length xs → a ≤ get_or xs k 0) → NumbersRise xs → RisesFrom a xs
 rises_from a [] h r = tt
 rises_from a (x ∷ xs) h r = (h 0 (omega arith), rises_from (suc x) xs (λ k l. (let less = r 0 (suc k) 0 (omega arith) (omega arith) in omega arith)) (λ i j d l m. r (suc i) (suc j) d (omega arith) (omega arith)))
 

@@ -5,12 +5,12 @@ use Rattle.std.proofs.lemmas.Int.{ints}
 use Rattle.std.proofs.lemmas.Bool.Decides.{nat_tests, Decides-eqb}
 use Rattle.sp_dd.specs.Floors.{ticks}
 use Rattle.sp_dd.specs.Func.{Func, IsScope, IsFunc, IsIndependentOf, DependsOn, value_of}
-use Rattle.sp_dd.specs.Operations.{scaled}
+use Rattle.sp_dd.specs.Operations.{scalar_multiple}
 use Rattle.sp_dd.proofs.FuncLemmas.{scope_some, value_of-function_of, IsFunc-function_of, IsPoint-with}
 use Rattle.sp_model.specs.declared.parts.Factor.{Factor}
 use Rattle.sp_model.specs.declared.parts.Parts.{Parts}
 use Rattle.sp_model.specs.Problem.{shape_of}
-use Rattle.sp_model.specs.Kept.{IsModel, IsMove, IsSight, IsReward, IsFactor, IsProbability}
+use Rattle.sp_model.specs.Kept.{IsModel, IsTransitionTable, IsSight, IsReward, IsFactor, IsProbability}
 use Rattle.sp_rows.specs.declared.tables.Table.TheVariants as table
 use Rattle.sp_checks.specs.declared.roles.Role.{Role}
 use Rattle.sp_checks.specs.declared.roles.Role.TheVariants as role
@@ -72,7 +72,7 @@ module _ (p : Parts) (m : IsModel p) where
       (λ i h d. absurd (dependent f.func (2 * i + 1) d (is.not_primed i h)))
       (λ j h d. absurd (dependent f.func (2 * n p m + j) d (is.not_seen j h)))
 
-  pub move_mentions : (k : ℕ) (f : Func) → IsMove (shape_of p) k f → MayMention p m (role.Table (table.Move k)) f
+  pub move_mentions : (k : ℕ) (f : Func) → IsTransitionTable (shape_of p) k f → MayMention p m (role.Table (table.Move k)) f
   move_mentions k f is slot l = by_slot (Mentions (role.Table (table.Move k)) f) slot l
       (λ i h d. both (nat_lt (2 * i) (2 * n p m)) ((2 * i) % 2 == 0 || nat_le (2 * i) (2 * k + 1)) (below (2 * i) (2 * n p m) (omega arith)) (ap (λ b. b || nat_le (2 * i) (2 * k + 1)) (even_is i)))
       (λ i h d. earlier i h d (nat_lt k i) refl)
@@ -98,23 +98,23 @@ module _ (p : Parts) (m : IsModel p) where
       own j h d false e = let other : j ≢ k = grind (arith, nat_tests) in absurd (dependent f (2 * n p m + j) d (is.not_others j other h))
 
   -- the negative of a function depends on what the function depends on
-  free_negative : (f : Func) (slot : ℕ) → f.shape ≡ shape_of p → slot < length (shape_of p).sizes → IsIndependentOf f slot → IsIndependentOf (scaled f (negsuc 0)) slot
+  free_negative : (f : Func) (slot : ℕ) → f.shape ≡ shape_of p → slot < length (shape_of p).sizes → IsIndependentOf f slot → IsIndependentOf (scalar_multiple f (negsuc 0)) slot
   free_negative f slot shape l free x v q h =
       let scope : IsScope f.shape = subst IsScope (sym shape) (scope_is p m) in
       value_of-function_of f.shape (λ y. negsuc 0 *ℤ value_of f y) (set x slot v) (scope_some f.shape scope) (IsPoint-with f.shape.sizes x slot v q h)
       ∙ ap (λ z. negsuc 0 *ℤ z) (free x v q h) ∙ sym (value_of-function_of f.shape (λ y. negsuc 0 *ℤ value_of f y) x (scope_some f.shape scope) q)
 
-  pub cost_mentions : (f : Func) → IsReward (shape_of p) f → MayMention p m role.Reward (scaled f (negsuc 0))
-  cost_mentions f is slot l = by_slot (Mentions role.Reward (scaled f (negsuc 0))) slot l
+  pub cost_mentions : (f : Func) → IsReward (shape_of p) f → MayMention p m role.Reward (scalar_multiple f (negsuc 0))
+  cost_mentions f is slot l = by_slot (Mentions role.Reward (scalar_multiple f (negsuc 0))) slot l
       (λ i h d. below (2 * i) (2 * n p m) (omega arith))
       (λ i h d. below (2 * i + 1) (2 * n p m) (omega arith))
-      (λ j h d. absurd (dependent (scaled f (negsuc 0)) (2 * n p m + j) d (free_negative f (2 * n p m + j) is.shape h (is.not_seen j h))))
+      (λ j h d. absurd (dependent (scalar_multiple f (negsuc 0)) (2 * n p m + j) d (free_negative f (2 * n p m + j) is.shape h (is.not_seen j h))))
 
   -- ---- functions that can be written
   pub table_shown : (f : Func) → f.shape ≡ shape_of p → IsProbability f → IsFunc f → IsShown p m f
   table_shown f shape shares func = record { shape = shape; small = λ x q. share_small (value_of f x) (shares x q); func = func }
 
-  pub cost_shown : (f : Func) → IsReward (shape_of p) f → IsShown p m (scaled f (negsuc 0))
+  pub cost_shown : (f : Func) → IsReward (shape_of p) f → IsShown p m (scalar_multiple f (negsuc 0))
   cost_shown f is =
       let scope : IsScope f.shape = subst IsScope (sym is.shape) (scope_is p m) in
       record {

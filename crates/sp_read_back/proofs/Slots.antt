@@ -9,7 +9,7 @@ use Rattle.std.proofs.lemmas.List.{length-map, get_or_append_left}
 use Rattle.sp_dd.specs.Func.{IsScope}
 use Rattle.sp_model.specs.declared.parts.Decl.{Decl}
 use Rattle.sp_model.specs.declared.parts.Parts.{Parts}
-use Rattle.sp_model.specs.Problem.{no_decl, shape_of, sizes_of, doubled}
+use Rattle.sp_model.specs.Problem.{no_decl, shape_of, sizes_of, twice_each}
 use Rattle.sp_model.specs.Kept.{IsModel}
 use Rattle.sp_trees.specs.declared.env.Dd.{Dd}
 use Rattle.sp_trees.specs.declared.env.Env.{Env}
@@ -18,7 +18,7 @@ use Rattle.sp_trees.specs.Slots.{has}
 use Rattle.sp_trees.specs.Nodes.{place_of, place_by, values_of, slot_of, number_of_decl}
 use Rattle.sp_checks.proofs.StartLemmas.{declared_scope}
 use Rattle.sp_checks.specs.declared.roles.Role.TheVariants as role
-use Rattle.sp_checks.specs.Roles.{allowed, may_mention}
+use Rattle.sp_checks.specs.Roles.{allowed_slots, may_mention}
 use Rattle.sp_spelled.specs.Words.{dd_name}
 use Rattle.sp_spelled.proofs.Numbers.{dd_name_word}
 use Rattle.sp_written.proofs.Names.{named, numbered_values}
@@ -85,9 +85,9 @@ module _ (p : Parts) (m : IsModel p) where
 
   -- ---- slots
   pub slots_count : length (shape_of p).sizes ≡ 2 * n + length p.sights
-  slots_count = length-append (doubled (sizes_of p.variables)) (sizes_of p.sights) ∙ (λ i. twice p.variables i + length-map p.sights (λ (d : Decl). length d.values) i)
+  slots_count = length-append (twice_each (sizes_of p.variables)) (sizes_of p.sights) ∙ (λ i. twice p.variables i + length-map p.sights (λ (d : Decl). length d.values) i)
     where
-      twice : (ds : List Decl) → length (doubled (sizes_of ds)) ≡ 2 * length ds
+      twice : (ds : List Decl) → length (twice_each (sizes_of ds)) ≡ 2 * length ds
       twice [] = refl
       twice (d ∷ ds) = let rest = twice ds in omega arith
 
@@ -112,7 +112,7 @@ module _ (p : Parts) (m : IsModel p) where
       go true = refl
       go false = refl
 
-  dd_allows : (slot : ℕ) → slot < length (shape_of p).sizes → has (allowed (shape_of p) role.Dd) slot ≡ true
+  dd_allows : (slot : ℕ) → slot < length (shape_of p).sizes → has (allowed_slots (shape_of p) role.Dd) slot ≡ true
   dd_allows slot l = where_has (may_mention n role.Dd) (length (shape_of p).sizes) slot l refl
 
   pub slot_said : (dds : List (List ℕ × Dd)) (slot : ℕ) → slot < length (shape_of p).sizes → IsSaidSo (env_of dds) slot (said_of slot)
@@ -149,7 +149,7 @@ module _ (p : Parts) (m : IsModel p) where
           }
 
   -- ---- sizes
-  size_doubled : (ds : List Decl) (rest : List ℕ) (k : ℕ) → k / 2 < length ds → get_or (doubled (sizes_of ds) ++ rest) k 0 ≡ length (get_or ds (k / 2) no_decl).values
+  size_doubled : (ds : List Decl) (rest : List ℕ) (k : ℕ) → k / 2 < length ds → get_or (twice_each (sizes_of ds) ++ rest) k 0 ≡ length (get_or ds (k / 2) no_decl).values
   size_doubled [] rest k l = absurd (omega arith)
   size_doubled (d ∷ ds) rest zero l = refl
   size_doubled (d ∷ ds) rest (suc zero) l = refl
@@ -157,7 +157,7 @@ module _ (p : Parts) (m : IsModel p) where
       let half : suc (suc k) / 2 ≡ suc (k / 2) = omega arith in
       size_doubled ds rest k (omega arith) ∙ ap (λ j. length (get_or (d ∷ ds) j no_decl).values) (sym half)
 
-  past_doubled : (ds : List Decl) (rest : List ℕ) (k : ℕ) → length ds ≤ k / 2 → get_or (doubled (sizes_of ds) ++ rest) k 0 ≡ get_or rest (k - 2 * length ds) 0
+  past_doubled : (ds : List Decl) (rest : List ℕ) (k : ℕ) → length ds ≤ k / 2 → get_or (twice_each (sizes_of ds) ++ rest) k 0 ≡ get_or rest (k - 2 * length ds) 0
   past_doubled [] rest k l = let e : k ≡ k - 2 * 0 = omega arith in ap (λ j. get_or rest j 0) e
   past_doubled (d ∷ ds) rest zero l = absurd (omega arith)
   past_doubled (d ∷ ds) rest (suc zero) l = absurd (omega arith)

@@ -5,7 +5,7 @@ use Rattle.sp_model.specs.declared.parts.Parts.{Parts}
 use Rattle.sp_model.specs.declared.parts.Factor.{Factor}
 use Rattle.sp_model.specs.declared.parts.ActionPart.{ActionPart}
 use Rattle.sp_model.specs.Kept.{IsModel}
-use Rattle.sp_spelled.specs.Signs.{printed}
+use Rattle.sp_spelled.specs.Signs.{text_of_signs}
 use Rattle.sp_reader.specs.Sources.{Reads}
 use Rattle.sp_canonical.specs.ModelSigns.{model_signs, lines_total, factor_tables, next_base}
 
@@ -27,4 +27,4 @@ line_end p base (a ∷ more) = line_end p (next_base p base a) more
 
 abbrev pub CanonicalTextIsReadBack : Type 0
 CanonicalTextIsReadBack =
-    (p : Parts) → IsModel p → AreFuncs p → line_end p (lines_total (factor_tables p.init)) p.actions ≤ 2 ^ 64 → Reads (printed (model_signs p)) p
+    (p : Parts) → IsModel p → AreFuncs p → line_end p (lines_total (factor_tables p.init)) p.actions ≤ 2 ^ 64 → Reads (text_of_signs (model_signs p)) p

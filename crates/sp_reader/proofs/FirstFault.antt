@@ -4,7 +4,7 @@ use Rattle.sp_syntax.specs.declared.class.Classed.{Classed}
 use Rattle.sp_syntax.specs.Fault.{Fault}
 use Rattle.sp_syntax.specs.Grammar.{IsViable}
 use Rattle.sp_syntax.specs.declared.error.SyntaxKind.TheVariants as kind
-use Rattle.sp_syntax.specs.Refusal.{Refuses, StopsAt, IsUnsupported, room, room_then, leave, IsShallow}
+use Rattle.sp_syntax.specs.Refusal.{RefusesTokens, StopsAt, IsUnsupported, room, room_then, leave, IsShallow}
 
 -- a list that goes on where another ends, with what stands there
 record IsLonger {A : Type 0} (xs us ys : List A) : Type 0 where
@@ -74,7 +74,7 @@ one_reason end front (t ∷ back) f g (inl a) (inr b) = absurd (a.0 b.0)
 one_reason end front (t ∷ back) f g (inr a) (inl b) = absurd (b.0 a.0)
 one_reason end front (t ∷ back) f g (inr a) (inr b) = (a.2 ∙ sym b.2, a.3 ∙ sym b.3)
 
-pub one_fault : (end : ℕ) (ts : List Classed) (f g : Fault) → Refuses end ts f → Refuses end ts g → (f.at ≡ g.at) × (f.kind ≡ g.kind)
+pub one_fault : (end : ℕ) (ts : List Classed) (f g : Fault) → RefusesTokens end ts f → RefusesTokens end ts g → (f.at ≡ g.at) × (f.kind ≡ g.kind)
 one_fault end ts f g a b = by_cut (cut a.front a.back b.front b.back (sym a.whole ∙ b.whole))
   where
     by_cut : ((a.front ≡ b.front) × (a.back ≡ b.back)) ⊎ (IsLonger a.front a.back b.front ⊎ IsLonger b.front b.back a.front) → (f.at ≡ g.at) × (f.kind ≡ g.kind)

@@ -10,7 +10,7 @@ use Rattle.sp_syntax.proofs.Unique.{one_text}
 use Rattle.sp_syntax.proofs.Exclusive.{refused_is_none}
 use Rattle.sp_trees.specs.declared.refusal.Refusal.{Refusal}
 use Rattle.sp_trees.specs.declared.refusal.ModelKind.{ModelKind}
-use Rattle.sp_trees.specs.Rows.{IsLeastOf}
+use Rattle.sp_trees.specs.Rows.{IsFirstRefusal}
 use Rattle.sp_checks.specs.Told.{parts_in}
 use Rattle.sp_checks.specs.RefusalTable.{Breaks}
 use Rattle.sp_checks.proofs.OneRowLemmas.{one_first}
@@ -26,10 +26,10 @@ one_tree source tree other a b =
     one_text tree other (classes source a.0) a.2.0 is
 
 -- the first row that holds refuses the bytes
-pub broken_rule : (source : List ℕ) (tree : Text) → IsTreeOf source tree → (at : ℕ) (kind : ModelKind) (name : List ℕ) → IsLeastOf (Breaks source tree) (Some (record { at = at; kind = kind })) → name ≡ kind_text source tree kind
+pub broken_rule : (source : List ℕ) (tree : Text) → IsTreeOf source tree → (at : ℕ) (kind : ModelKind) (name : List ℕ) → IsFirstRefusal (Breaks source tree) (Some (record { at = at; kind = kind })) → name ≡ kind_text source tree kind
     → (other : ℕ) (word : List ℕ) → at ≡ other → name ≡ word → IsFaulty source other word
 broken_rule source tree is at kind name first named other word e f =
-    inr (inr (tree, is, (kind, subst (λ a. IsLeastOf (Breaks source tree) (Some (record { at = a; kind = kind }))) e first, sym f ∙ named)))
+    inr (inr (tree, is, (kind, subst (λ a. IsFirstRefusal (Breaks source tree) (Some (record { at = a; kind = kind }))) e first, sym f ∙ named)))
 
 pub one_meaning : OneModel
 one_meaning source model other a b =
@@ -81,7 +81,7 @@ one_reason source at other name word (inr (inr broken)) (inr (inr again)) =
     let one : Refusal = record { at = at; kind = broken.2.0 } in
     let two : Refusal = record { at = other; kind = again.2.0 } in
     let is = again.1 in
-    let first = subst (λ tree. IsLeastOf (Breaks source tree) (Some one)) trees broken.2.1 in
+    let first = subst (λ tree. IsFirstRefusal (Breaks source tree) (Some one)) trees broken.2.1 in
     let same : one ≡ two = one_first source again.0 one two (record { tokens = is.0; lexed = is.1; read = is.2.0 }) first again.2.1 in (
       ap (λ (r : Refusal). r.at) same,
       broken.2.2 ∙ ap (λ t. kind_text source t broken.2.0) trees ∙ ap (λ (r : Refusal). kind_text source again.0 r.kind) same ∙ sym again.2.2,

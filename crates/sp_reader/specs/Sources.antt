@@ -10,14 +10,14 @@ use Rattle.sp_syntax.specs.Refusal as grammar
 use Rattle.sp_model.specs.declared.parts.Parts.{Parts}
 use Rattle.sp_trees.specs.declared.refusal.ModelKind.{ModelKind}
 use Rattle.sp_trees.specs.declared.refusal.Refusal.{Refusal}
-use Rattle.sp_trees.specs.Rows.{IsLeastOf}
+use Rattle.sp_trees.specs.Rows.{IsFirstRefusal}
 use Rattle.sp_checks.specs.Told.{parts_in}
 use Rattle.sp_checks.specs.RefusalTable.{Breaks}
 use Rattle.sp_reader.specs.Kinds.{grammar_name, kind_text}
 
 -- the bytes have tokens, and this is the tree of these
 abbrev pub IsTreeOf : List ℕ → Text → Type 0
-IsTreeOf source tree = (ts : List Token) × (tokens_of source ≡ Ok ts) × grammar.Answers (length source) (classes source ts) (Ok tree)
+IsTreeOf source tree = (ts : List Token) × (tokens_of source ≡ Ok ts) × grammar.AnswersTokens (length source) (classes source ts) (Ok tree)
 
 -- the bytes mean this model: no row of the table of refusals holds of their tree, which tells the model
 abbrev pub Reads : List ℕ → Parts → Type 0
@@ -25,11 +25,11 @@ Reads source model = (tree : Text) × IsTreeOf source tree × ((r : Refusal) →
 
 -- the grammar refuses the tokens of the bytes at this byte, for this reason
 abbrev pub IsOutside : List ℕ → ℕ → SyntaxKind → Type 0
-IsOutside source at kind = (ts : List Token) × (tokens_of source ≡ Ok ts) × grammar.Answers (length source) (classes source ts) (Err (Fault at kind))
+IsOutside source at kind = (ts : List Token) × (tokens_of source ≡ Ok ts) × grammar.AnswersTokens (length source) (classes source ts) (Err (Fault at kind))
 
 -- the bytes are of the grammar, and of the rows of the table that hold of their tree the first is at this byte, with this name
 abbrev pub BreaksRule : List ℕ → ℕ → List ℕ → Type 0
-BreaksRule source at name = (tree : Text) × IsTreeOf source tree × ((kind : ModelKind) × IsLeastOf (Breaks source tree) (Some (record { at = at; kind = kind })) × (name ≡ kind_text source tree kind))
+BreaksRule source at name = (tree : Text) × IsTreeOf source tree × ((kind : ModelKind) × IsFirstRefusal (Breaks source tree) (Some (record { at = at; kind = kind })) × (name ≡ kind_text source tree kind))
 
 -- the bytes are refused at this byte, for the reason of this name: by their tokens, by the grammar, or by a rule
 abbrev pub IsFaulty : List ℕ → ℕ → List ℕ → Type 0

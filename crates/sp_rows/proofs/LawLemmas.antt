@@ -12,12 +12,12 @@ use Rattle.sp_theory.specs.Points.{count_of}
 use Rattle.sp_dd.specs.Floors.{ticks, sum_to}
 use Rattle.sp_dd.specs.Points.{product, place, point_at, IsPoint}
 use Rattle.sp_dd.specs.Func.{Shape, Func, IsScope, IsPointOf, Everywhere, IsIndependentOf, value_of, function_of, size_of}
-use Rattle.sp_dd.specs.Operations.{summed_out, IsRow, plus, scaled, everywhere}
+use Rattle.sp_dd.specs.Operations.{summed_out, IsRow, plus, scalar_multiple, everywhere}
 use Rattle.sp_dd.proofs.FuncLemmas.{scope_some, value_of-function_of, IsPoint-with}
 use Rattle.sp_dd.proofs.PointLemmas.{place-below}
-use Rattle.sp_model.specs.Problem.{doubled}
+use Rattle.sp_model.specs.Problem.{twice_each}
 use Rattle.sp_model.specs.Sizes.{AllSome}
-use Rattle.sp_model.specs.Kept.{IsProbability, IsMove, summed_out_own}
+use Rattle.sp_model.specs.Kept.{IsProbability, IsTransitionTable, summed_out_own}
 use Rattle.sp_model.proofs.InitialLaw.{summed_out_own-shape}
 use Rattle.sp_rows.specs.declared.tables.Table.{Table}
 use Rattle.sp_rows.specs.declared.tables.Table.TheVariants as table
@@ -89,7 +89,7 @@ less_free f g slot scope e within hf hg x v p b =
     let gq : IsPointOf g (set x slot v) = subst (λ (s : Shape). IsPoint s.sizes (set x slot v)) (sym e) q in
     let gb : v < size_of g.shape slot = subst (λ (s : Shape). v < size_of s slot) (sym e) b in
     let gs : IsScope g.shape = subst IsScope (sym e) scope in
-    let at = λ (y : List ℕ) (r : IsPointOf f y) (s : IsPointOf g y). value_of-function_of f.shape (λ y. value_of f y +ℤ value_of (scaled g (negsuc 0)) y) y some r
+    let at = λ (y : List ℕ) (r : IsPointOf f y) (s : IsPointOf g y). value_of-function_of f.shape (λ y. value_of f y +ℤ value_of (scalar_multiple g (negsuc 0)) y) y some r
     ∙ ap (λ z. value_of f y +ℤ z) (value_of-function_of g.shape (λ y. negsuc 0 *ℤ value_of g y) y (scope_some g.shape gs) s) in
     at (set x slot v) q gq ∙ ap₂ (λ a c. a +ℤ (negsuc 0 *ℤ c)) (hf x v p b) (hg x v gp gb) ∙ sym (at x p gp)
 
@@ -114,7 +114,7 @@ squared a b w p c h k l =
     let same : w * (w * (c * c)) ≡ (w * c) * (w * c) = grind arith in
     omega arith
 
-pairs_most : (counts : ℕ → Bool) (k : ℕ) (ks js : List ℕ) → AllSome ks → ((slot : ℕ) → k + 2 * length ks ≤ slot → counts slot ≡ false) → product (widths_from counts k (doubled ks ++ js)) ≤ count_of ks * count_of ks
+pairs_most : (counts : ℕ → Bool) (k : ℕ) (ks js : List ℕ) → AllSome ks → ((slot : ℕ) → k + 2 * length ks ≤ slot → counts slot ≡ false) → product (widths_from counts k (twice_each ks ++ js)) ≤ count_of ks * count_of ks
 pairs_most counts k [] js h none = let e = no_more counts k js (λ slot l. none slot (omega arith)) in omega arith
 pairs_most counts k (w ∷ ks) js h none =
     squared _ _ w _ (count_of ks) (width_most (counts k) w h.0) (width_most (counts (k + 1)) w h.0) (pairs_most counts (k + 1 + 1) ks js h.1 (λ slot l. none slot (omega arith)))
@@ -132,7 +132,7 @@ none_behind n (table.Sight j) slot h = rw (not_below slot (2 * n) h) refl
 square_small : (c : ℕ) → c ≤ 2 ^ 24 → c * c ≤ 2 ^ 48
 square_small c h = let one : c * c ≤ c * 2 ^ 24 = mul-le-mul_left c h in omega arith
 
-pub few_rows : (ks js : List ℕ) (t : Table) → AllSome ks → count_of ks ≤ 2 ^ 24 → product (widths_from (numbers_rows (length ks) t) 0 (doubled ks ++ js)) ≤ 2 ^ 48
+pub few_rows : (ks js : List ℕ) (t : Table) → AllSome ks → count_of ks ≤ 2 ^ 24 → product (widths_from (numbers_rows (length ks) t) 0 (twice_each ks ++ js)) ≤ 2 ^ 48
 few_rows ks js t some h = let most = pairs_most (numbers_rows (length ks) t) 0 ks js some (λ slot l. none_behind (length ks) t slot (omega arith)) in let small = square_small (count_of ks) h in omega arith
 
 -- ---- the table of a variable that keeps its value
@@ -183,7 +183,7 @@ module _ (s : Shape) (i : ℕ) (scope : IsScope s) (h : i < s.variables) where
       (get_or-set_same x (2 * i + 1) v 0 (let e = length-point s.sizes x p in let w = pair.primed in omega arith)))
       ∙ sum_at k n low
 
-  pub identity_move : IsMove s i (identity s i)
+  pub identity_move : IsTransitionTable s i (identity s i)
   identity_move = record {
     shape = refl;
     probability = identity_share;

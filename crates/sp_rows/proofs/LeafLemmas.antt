@@ -13,7 +13,7 @@ use Rattle.std.proofs.lemmas.List.Elements.{All-get_or, All-from_get_or}
 use Rattle.std.proofs.lemmas.List.Folds.{list_all_at}
 use Rattle.sp_dd.specs.Points.{product, place, point_at}
 use Rattle.sp_dd.specs.Func.{Func, IsScope, IsPointOf, Everywhere, value_of, leaves_of}
-use Rattle.sp_dd.specs.Operations.{IsLeast, IsGreatest, IsFirstApart, scaled}
+use Rattle.sp_dd.specs.Operations.{IsLeast, IsGreatest, IsFirstApart, scalar_multiple}
 use Rattle.sp_dd.proofs.FuncLemmas.{scope_some, value_of-function_of}
 use Rattle.sp_dd.proofs.PointLemmas.{place-below, place-point_at, point_at-place, point_at_is}
 use Rattle.sp_rows.specs.Tables.{values_of, is_within, first_apart}
@@ -130,7 +130,7 @@ apart_inside f v None h = tt
 apart_inside f v (Some x) h = h.inside
 
 -- less a cost within 10^18
-pub small_cost : (f g : Func) → IsScope f.shape → g ≡ scaled f (negsuc 0) → Everywhere f (λ v. unsigned_abs v ≤ 10 ^ 18) → Everywhere g (λ v. unsigned_abs v ≤ 10 ^ 18)
+pub small_cost : (f g : Func) → IsScope f.shape → g ≡ scalar_multiple f (negsuc 0) → Everywhere f (λ v. unsigned_abs v ≤ 10 ^ 18) → Everywhere g (λ v. unsigned_abs v ≤ 10 ^ 18)
 small_cost f g scope e small x p =
     let inside : IsPointOf f x = subst (λ (h : Func). IsPointOf h x) e p in
     let v = value_of f x in

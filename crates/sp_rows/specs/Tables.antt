@@ -5,7 +5,7 @@ use Rattle.std.specs.Ordering.{int_eq}
 use Rattle.sp_dd.specs.Floors.{ticks}
 use Rattle.sp_dd.specs.Points.{place, point_at}
 use Rattle.sp_dd.specs.Func.{Shape, Func, value_of, function_of, leaves_of, size_of}
-use Rattle.sp_dd.specs.Operations.{summed_out, plus, scaled, leaf_chosen}
+use Rattle.sp_dd.specs.Operations.{summed_out, plus, scalar_multiple, leaf_chosen}
 use Rattle.sp_model.specs.Kept.{summed_out_own, most_reward}
 use Rattle.sp_rows.specs.declared.tables.Table.{Table}
 use Rattle.sp_rows.specs.declared.tables.Table.TheVariants as table
@@ -77,7 +77,7 @@ table_to s slot value = leaf_chosen s slot (leaves_at (size_of s slot) value)
 
 -- a reward less a cost
 abbrev pub less : Func → Func → Func
-less reward cost = plus reward (scaled cost (negsuc 0))
+less reward cost = plus reward (scalar_multiple cost (negsuc 0))
 
 -- how many choices of values of these variables there are
 abbrev pub own_count : Shape → List ℕ → ℕ

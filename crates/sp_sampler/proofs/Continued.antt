@@ -8,7 +8,7 @@ use Rattle.sp_theory.specs.Model.{Model}
 use Rattle.sp_theory.specs.Values.{Weights}
 use Rattle.sp_theory.specs.Agreement.{WeightsAgree, NextAgree}
 use Rattle.sp_theory.specs.Beliefs.{initial_weights, next_weights}
-use Rattle.sp_theory.specs.Samples.{Chooser, Sample, first_sample, sample_after, sampled, parent_weights, drawn_observation, sample_at, IsFirst, IsNext, AreSamplesOf}
+use Rattle.sp_theory.specs.Samples.{Chooser, Sample, first_sample, sample_after, sampled, parent_weights, drawn_observation, sample_at, IsFirstSample, IsNextSample, AreSamplesOf}
 use Rattle.sp_theory.proofs.LogLemmas.{next_agrees}
 use Rattle.sp_sampler.specs.Sampled.{SamplesAgree, parent_number}
 use Rattle.sp_sampler.proofs.Drawing.{drawn_same}
@@ -41,7 +41,7 @@ module _ (m : Model) {S : Type 0} (chooser : Chooser S) (depth : ℕ) (words : L
     pub agree : (k : ℕ) → k < n → SamplesAgree m (sample_at m xs k) (sampled m chooser depth words k).0
     pub of_model : AreSamplesOf m depth xs
 
-  pub first_so_far : (x : Sample) → IsFirst m x → AreSoFar 1 (x ∷ [])
+  pub first_so_far : (x : Sample) → IsFirstSample m x → AreSoFar 1 (x ∷ [])
   unfolding sampled
   first_so_far x is = record {
     count = refl;
@@ -108,7 +108,7 @@ module _ (m : Model) {S : Type 0} (chooser : Chooser S) (depth : ℕ) (words : L
             weights = some_agrees m _ x.weights _ (next_trans m _ _ _ (next_agrees m _ _ action _ (weights_sym m _ _ parent_sampled)) (subst (λ (o : ℕ). NextAgree m (next_weights m parent.weights action (point_of m.sight_sizes o)) (Some x.weights)) (drawn ∙ same) next));
           }
 
-      follows : IsNext m (parent_weights m depth k (sample_at m xs k).weights) x
+      follows : IsNextSample m (parent_weights m depth k (sample_at m xs k).weights) x
       follows = record {
         known = known;
         seen = seen;
@@ -121,7 +121,7 @@ module _ (m : Model) {S : Type 0} (chooser : Chooser S) (depth : ℕ) (words : L
         count = count_more;
         agree = λ j less. below_last agree_at (suc k) (λ j less. subst (λ (y : Sample). SamplesAgree m y (sampled m chooser depth words j).0) (more_before j less) (before.agree j less)) (subst (λ (y : Sample). SamplesAgree m y (sampled m chooser depth words (suc k)).0) more_last agrees) j less;
         of_model = record {
-          first = λ some. subst (IsFirst m) (more_before 0 (omega arith)) (before.of_model.first (omega (arith, before.count)));
+          first = λ some. subst (IsFirstSample m) (more_before 0 (omega arith)) (before.of_model.first (omega (arith, before.count)));
           later = λ j less. below_last next_at k
               (λ j less. next_in j (omega (arith, less)) (sample_at m more (suc j)) (more_before (suc j) (omega (arith, less))) (before.of_model.later j (omega (arith, less, before.count))))
               (next_in k (omega arith) (sample_at m more (suc k)) more_last follows) j (omega (arith, less, count_more));
@@ -132,7 +132,7 @@ module _ (m : Model) {S : Type 0} (chooser : Chooser S) (depth : ℕ) (words : L
           agree_at j = SamplesAgree m (sample_at m (xs ++ x ∷ []) j) (sampled m chooser depth words j).0
 
           next_at : ℕ → Type 0
-          next_at j = IsNext m (parent_weights m depth j (sample_at m (xs ++ x ∷ []) j).weights) (sample_at m (xs ++ x ∷ []) (suc j))
+          next_at j = IsNextSample m (parent_weights m depth j (sample_at m (xs ++ x ∷ []) j).weights) (sample_at m (xs ++ x ∷ []) (suc j))
 
-          next_in : (j : ℕ) → j < suc k → (z : Sample) {y : Sample} → y ≡ z → IsNext m (parent_weights m depth j (sample_at m xs j).weights) y → IsNext m (parent_weights m depth j (sample_at m more j).weights) z
-          next_in j less z {y} same is = subst (λ (z : Sample). IsNext m (parent_weights m depth j (sample_at m more j).weights) z) same (subst (λ (u : Sample). IsNext m (parent_weights m depth j u.weights) y) (more_before j less) is)
+          next_in : (j : ℕ) → j < suc k → (z : Sample) {y : Sample} → y ≡ z → IsNextSample m (parent_weights m depth j (sample_at m xs j).weights) y → IsNextSample m (parent_weights m depth j (sample_at m more j).weights) z
+          next_in j less z {y} same is = subst (λ (z : Sample). IsNextSample m (parent_weights m depth j (sample_at m more j).weights) z) same (subst (λ (u : Sample). IsNextSample m (parent_weights m depth j u.weights) y) (more_before j less) is)

@@ -23,7 +23,7 @@ use Rattle.sp_model.specs.Problem.{sizes_of, problem}
 use Rattle.sp_model.specs.Links.{weights_of}
 use Rattle.sp_belief.specs.Updates.{total_after}
 use Rattle.sp_sampler.specs.Totals.{Exceeds}
-use Rattle.sp_sampler.specs.Sampled.{IsObserved}
+use Rattle.sp_sampler.specs.Sampled.{IsDrawnObservation}
 
 -- the least number below n whose next running sum exceeds a target
 drawn_by : (ℕ → ℕ) → ℕ → ℕ → ℕ
@@ -102,7 +102,7 @@ module _ (p : Parts) (w : Func) (a : ℕ) (totals slice : List ℕ) (are : total
   pub remainder_below : (word whole : ℕ) → whole ≡ sum slice → word % whole < sum slice
   remainder_below word whole is = subst (λ (n : ℕ). word % whole < n) is (mod_below word whole (whole_some whole is))
 
-  pub observed_is : (word whole place : ℕ) → whole ≡ sum slice → Exceeds slice (word % whole) place → IsObserved p w a word place
+  pub observed_is : (word whole place : ℕ) → whole ≡ sum slice → Exceeds slice (word % whole) place → IsDrawnObservation p w a word place
   unfolding problem
   observed_is word whole place is exceeds =
       let drawn = exceeding_drawn (problem p) (weights_of p w) a slice (same ∙ are) word place (subst (λ (n : ℕ). Exceeds slice (word % n) place) is exceeds) in

@@ -38,7 +38,7 @@ pub record StandAfter (p : Parts) (chooser : Machine) (depth count : ℕ) (words
   pub chosen : new_chooser ≡ chooser_after p chooser depth (first_words (2 * count) words) k
 
 -- the joint observation that a word draws after an action, at weights; it is one of the model's, and it is seen
-pub record IsObserved (p : Parts) (w : Func) (a word o : ℕ) : Type 0 where
+pub record IsDrawnObservation (p : Parts) (w : Func) (a word o : ℕ) : Type 0 where
   pub within : o < count_of (sizes_of p.sights)
   pub drawn : o ≡ theory.drawn_observation (problem p) (weights_of p w) a word
   pub seen : IsSome (next_weights (problem p) (weights_of p w) a (point_of (problem p).sight_sizes o))
@@ -46,7 +46,7 @@ pub record IsObserved (p : Parts) (w : Func) (a word o : ℕ) : Type 0 where
 -- the belief next after an action and the joint observation that a word draws
 pub record IsDrawn (p : Parts) (w : Func) (a word : ℕ) (x : Sample) : Type 0 where
   pub action : x.action ≡ a
-  pub observed : IsObserved p w a word x.observation
+  pub observed : IsDrawnObservation p w a word x.observation
   pub next : AreNext p w a x.observation x.weights
 
 -- the belief after which belief k + 1 is next: belief k, or belief 0 where the depth divides k

@@ -20,5 +20,5 @@ abbrev pub first_words : ℕ → Stream → List ℕ
 first_words n words = map (word_at words) (range_with_len 0 n)
 
 -- what the generator of a seed answers: PCG XSL RR 128/64 (O'Neill 2014), of the seed that PCG32 expands from the number
-abbrev pub seeded : ℕ → Stream
-seeded seed = stream_of (steps_u64_low pcg64) (pcg64_of_seed (pcg32_seed 32 seed))
+abbrev pub stream_of_seed : ℕ → Stream
+stream_of_seed seed = stream_of (steps_u64_low pcg64) (pcg64_of_seed (pcg32_seed 32 seed))

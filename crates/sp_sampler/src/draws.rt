@@ -6,7 +6,7 @@ ghost use Rattle.sp_theory.specs.Samples.{whole_total};
 ghost use Rattle.sp_model.specs.Problem.{problem, sizes_of};
 ghost use Rattle.sp_model.specs.Links.{weights_of};
 ghost use Rattle.sp_belief.specs.Tables.{AreActionTables};
-ghost use Rattle.sp_sampler.specs.Sampled.{IsDrawn, IsObserved};
+ghost use Rattle.sp_sampler.specs.Sampled.{IsDrawn, IsDrawnObservation};
 ghost use Rattle.sp_sampler.specs.Tables.{AreKeptTables};
 ghost use Rattle.sp_sampler.specs.Totals.{Exceeds};
 
@@ -73,7 +73,7 @@ fn observed(
 ) -> Result<u64, NoMemory>
     requires tables { AreActionTables carried.now.model.now tables.now }
     requires action { tables.now.action ≡ carried.now.action }
-    ensures { IfOk result (λ o. IsObserved carried.now.model.now carried.now.weights.now carried.now.action word o) }
+    ensures { IfOk result (λ o. IsDrawnObservation carried.now.model.now carried.now.weights.now carried.now.action word o) }
 {
     let totals = carried.totals(alloc, tables)?;
     something_is_seen(carried);

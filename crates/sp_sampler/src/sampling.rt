@@ -3,7 +3,7 @@
 ghost use Rattle.std.specs.Prelude.{◌≡◌, ℕ, ◌+◌, ◌-◌, ◌*◌, ◌%◌, ◌<◌, ◌≤◌, ◌++◌, [], ◌∷◌, List, length, IfOk, OnOk, OnErr};
 ghost use Rattle.sp_choose.specs.Machines.{Machine, answer_of, after_answer};
 ghost use Rattle.sp_model.specs.declared.beliefs.Sample.{Sample};
-ghost use Rattle.sp_sampler.specs.Words.{first_words, left_after, seeded, word_at};
+ghost use Rattle.sp_sampler.specs.Words.{first_words, left_after, stream_of_seed, word_at};
 ghost use Rattle.sp_sampler.specs.Sampled.{AreSampled, StandAfter, parent_number};
 
 use crate::draws::drawn;
@@ -35,7 +35,7 @@ pub fn sample(
     requires deep { 0 < depth }
     requires not_deeper { depth ≤ 4096 }
     ensures depth { IfOk result (λ s. s.depth ≡ depth) }
-    ensures samples { IfOk result (λ s. AreSampled model.now (machine chooser) depth (first_words (2 * count) (seeded seed)) count s.list) }
+    ensures samples { IfOk result (λ s. AreSampled model.now (machine chooser) depth (first_words (2 * count) (stream_of_seed seed)) count s.list) }
 {
     let mut words = Lcg128Xsl64::seed_from_u64(seed);
     let mut chooser = chooser;

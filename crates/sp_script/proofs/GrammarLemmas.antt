@@ -22,54 +22,54 @@ use Rattle.sp_script.specs.declared.request.Verb.TheVariants.{Opening, Asking, O
 use Rattle.sp_script.specs.Requests.{is_session_name, observation_from, observation_of, plain_verb, verb_by, request_of, Request}
 use Rattle.sp_script.specs.Lines.{is_skipped, words_of}
 use Rattle.sp_script.specs.Script.{command_of, command_on, commands_on}
-use Rattle.sp_script.specs.Grammar.{keyword, AreValues, Says, AreNamed}
-use Rattle.sp_script.specs.Laws.{RequestsAreSaid, ObservationsAreNamed, ObservationsAreWithin, IsWithin}
+use Rattle.sp_script.specs.Grammar.{keyword, AreValueWords, WordsSay, AreNamed}
+use Rattle.sp_script.specs.Laws.{RequestsAreSaid, ObservationsAreNamed, ObservationsAreWithin, IsObservationWithin}
 use Rattle.sp_script.proofs.CommandLemmas.{bytes_same, bytes_self}
 
 -- ---- words
 some_is : {A : Type 0} {x y : A} → Some x ≡ Some y → x ≡ y
 some_is e = cc
 
-plain_said : (sights : List Decl) (word : List ℕ) (verb : Verb) → plain_verb word ≡ Some verb → (word ≡ keyword verb) × AreValues sights verb []
+plain_said : (sights : List Decl) (word : List ℕ) (verb : Verb) → plain_verb word ≡ Some verb → (word ≡ keyword verb) × AreValueWords sights verb []
 plain_said sights word verb e = by_open (bytes_eq word (codes "open")) refl e
   where
-    by_close : (b : Bool) → bytes_eq word (codes "close") ≡ b → cond b (Some Closing) None ≡ Some verb → (word ≡ keyword verb) × AreValues sights verb []
-    by_close true f e = let is : Closing ≡ verb = cc in subst (λ (v : Verb). (word ≡ keyword v) × AreValues sights v []) is (bytes_same word (codes "close") f, refl)
+    by_close : (b : Bool) → bytes_eq word (codes "close") ≡ b → cond b (Some Closing) None ≡ Some verb → (word ≡ keyword verb) × AreValueWords sights verb []
+    by_close true f e = let is : Closing ≡ verb = cc in subst (λ (v : Verb). (word ≡ keyword v) × AreValueWords sights v []) is (bytes_same word (codes "close") f, refl)
     by_close false f e = absurd (cc)
 
-    by_sync : (b : Bool) → bytes_eq word (codes "sync") ≡ b → cond b (Some Syncing) (cond (bytes_eq word (codes "close")) (Some Closing) None) ≡ Some verb → (word ≡ keyword verb) × AreValues sights verb []
-    by_sync true f e = let is : Syncing ≡ verb = cc in subst (λ (v : Verb). (word ≡ keyword v) × AreValues sights v []) is (bytes_same word (codes "sync") f, refl)
+    by_sync : (b : Bool) → bytes_eq word (codes "sync") ≡ b → cond b (Some Syncing) (cond (bytes_eq word (codes "close")) (Some Closing) None) ≡ Some verb → (word ≡ keyword verb) × AreValueWords sights verb []
+    by_sync true f e = let is : Syncing ≡ verb = cc in subst (λ (v : Verb). (word ≡ keyword v) × AreValueWords sights v []) is (bytes_same word (codes "sync") f, refl)
     by_sync false f e = by_close (bytes_eq word (codes "close")) refl e
 
-    by_act : (b : Bool) → bytes_eq word (codes "act") ≡ b → cond b (Some Asking) (cond (bytes_eq word (codes "sync")) (Some Syncing) (cond (bytes_eq word (codes "close")) (Some Closing) None)) ≡ Some verb → (word ≡ keyword verb) × AreValues sights verb []
-    by_act true f e = let is : Asking ≡ verb = cc in subst (λ (v : Verb). (word ≡ keyword v) × AreValues sights v []) is (bytes_same word (codes "act") f, refl)
+    by_act : (b : Bool) → bytes_eq word (codes "act") ≡ b → cond b (Some Asking) (cond (bytes_eq word (codes "sync")) (Some Syncing) (cond (bytes_eq word (codes "close")) (Some Closing) None)) ≡ Some verb → (word ≡ keyword verb) × AreValueWords sights verb []
+    by_act true f e = let is : Asking ≡ verb = cc in subst (λ (v : Verb). (word ≡ keyword v) × AreValueWords sights v []) is (bytes_same word (codes "act") f, refl)
     by_act false f e = by_sync (bytes_eq word (codes "sync")) refl e
 
-    by_open : (b : Bool) → bytes_eq word (codes "open") ≡ b → cond b (Some Opening) (cond (bytes_eq word (codes "act")) (Some Asking) (cond (bytes_eq word (codes "sync")) (Some Syncing) (cond (bytes_eq word (codes "close")) (Some Closing) None))) ≡ Some verb → (word ≡ keyword verb) × AreValues sights verb []
-    by_open true f e = let is : Opening ≡ verb = cc in subst (λ (v : Verb). (word ≡ keyword v) × AreValues sights v []) is (bytes_same word (codes "open") f, refl)
+    by_open : (b : Bool) → bytes_eq word (codes "open") ≡ b → cond b (Some Opening) (cond (bytes_eq word (codes "act")) (Some Asking) (cond (bytes_eq word (codes "sync")) (Some Syncing) (cond (bytes_eq word (codes "close")) (Some Closing) None))) ≡ Some verb → (word ≡ keyword verb) × AreValueWords sights verb []
+    by_open true f e = let is : Opening ≡ verb = cc in subst (λ (v : Verb). (word ≡ keyword v) × AreValueWords sights v []) is (bytes_same word (codes "open") f, refl)
     by_open false f e = by_act (bytes_eq word (codes "act")) refl e
 
-verb_said : (sights : List Decl) (word : List ℕ) (values : List (List ℕ)) (verb : Verb) → verb_by sights word values ≡ Some verb → (word ≡ keyword verb) × AreValues sights verb values
+verb_said : (sights : List Decl) (word : List ℕ) (values : List (List ℕ)) (verb : Verb) → verb_by sights word values ≡ Some verb → (word ≡ keyword verb) × AreValueWords sights verb values
 verb_said sights word values verb e = by_word (bytes_eq word (codes "observe")) refl e
   where
-    by_length : (b : Bool) → eqb (length values) (length sights) ≡ b → word ≡ codes "observe" → cond b (Some (Observing (observation_of sights values))) None ≡ Some verb → (word ≡ keyword verb) × AreValues sights verb values
-    by_length true g f e = let is : Observing (observation_of sights values) ≡ verb = cc in subst (λ (v : Verb). (word ≡ keyword v) × AreValues sights v values) is (f, (eqb-true (length values) (length sights) g, refl))
+    by_length : (b : Bool) → eqb (length values) (length sights) ≡ b → word ≡ codes "observe" → cond b (Some (Observing (observation_of sights values))) None ≡ Some verb → (word ≡ keyword verb) × AreValueWords sights verb values
+    by_length true g f e = let is : Observing (observation_of sights values) ≡ verb = cc in subst (λ (v : Verb). (word ≡ keyword v) × AreValueWords sights v values) is (f, (eqb-true (length values) (length sights) g, refl))
     by_length false g f e = absurd (cc)
 
-    by_none : (b : Bool) → eqb (length values) 0 ≡ b → cond b (plain_verb word) None ≡ Some verb → (word ≡ keyword verb) × AreValues sights verb values
-    by_none true g e = let none = nil_from_length values (eqb-true (length values) 0 g) in subst (λ (vs : List (List ℕ)). (word ≡ keyword verb) × AreValues sights verb vs) (sym none) (plain_said sights word verb e)
+    by_none : (b : Bool) → eqb (length values) 0 ≡ b → cond b (plain_verb word) None ≡ Some verb → (word ≡ keyword verb) × AreValueWords sights verb values
+    by_none true g e = let none = nil_from_length values (eqb-true (length values) 0 g) in subst (λ (vs : List (List ℕ)). (word ≡ keyword verb) × AreValueWords sights verb vs) (sym none) (plain_said sights word verb e)
     by_none false g e = absurd (cc)
 
-    by_word : (b : Bool) → bytes_eq word (codes "observe") ≡ b → cond b (cond (eqb (length values) (length sights)) (Some (Observing (observation_of sights values))) None) (cond (eqb (length values) 0) (plain_verb word) None) ≡ Some verb → (word ≡ keyword verb) × AreValues sights verb values
+    by_word : (b : Bool) → bytes_eq word (codes "observe") ≡ b → cond b (cond (eqb (length values) (length sights)) (Some (Observing (observation_of sights values))) None) (cond (eqb (length values) 0) (plain_verb word) None) ≡ Some verb → (word ≡ keyword verb) × AreValueWords sights verb values
     by_word true f e = by_length (eqb (length values) (length sights)) refl (bytes_same word (codes "observe") f) e
     by_word false f e = by_none (eqb (length values) 0) refl e
 
-request_said : (sights : List Decl) (words : List (List ℕ)) (verb : Verb) (name : List ℕ) → request_of sights words ≡ Some (verb, name) → Says sights words verb name
+request_said : (sights : List Decl) (words : List (List ℕ)) (verb : Verb) (name : List ℕ) → request_of sights words ≡ Some (verb, name) → WordsSay sights words verb name
 request_said sights [] verb name e = absurd (cc)
 request_said sights (word ∷ []) verb name e = absurd (cc)
 request_said sights (word ∷ called ∷ values) verb name e = by_name (is_session_name called) refl e
   where
-    by_verb : (o : Option Verb) → verb_by sights word values ≡ o → is_session_name called ≡ true → option_map {U = Request} (λ v. (v, called)) o ≡ Some (verb, name) → Says sights (word ∷ called ∷ values) verb name
+    by_verb : (o : Option Verb) → verb_by sights word values ≡ o → is_session_name called ≡ true → option_map {U = Request} (λ v. (v, called)) o ≡ Some (verb, name) → WordsSay sights (word ∷ called ∷ values) verb name
     by_verb None f g e = absurd (cc)
     by_verb (Some v) f g e =
         let one : Request = (v, called) in
@@ -80,11 +80,11 @@ request_said sights (word ∷ called ∷ values) verb name e = by_name (is_sessi
         let (spelt, are) = verb_said sights word values verb (f ∙ ap Some is) in
         (values, (λ i. spelt i ∷ same i ∷ values), ap is_session_name (sym same) ∙ g, are)
 
-    by_name : (b : Bool) → is_session_name called ≡ b → cond b (option_map {U = Request} (λ v. (v, called)) (verb_by sights word values)) None ≡ Some (verb, name) → Says sights (word ∷ called ∷ values) verb name
+    by_name : (b : Bool) → is_session_name called ≡ b → cond b (option_map {U = Request} (λ v. (v, called)) (verb_by sights word values)) None ≡ Some (verb, name) → WordsSay sights (word ∷ called ∷ values) verb name
     by_name true g e = by_verb (verb_by sights word values) refl g e
     by_name false g e = absurd (cc)
 
-said_request : (sights : List Decl) (verb : Verb) (name : List ℕ) (values : List (List ℕ)) → is_session_name name ≡ true → AreValues sights verb values → request_of sights (keyword verb ∷ name ∷ values) ≡ Some (verb, name)
+said_request : (sights : List Decl) (verb : Verb) (name : List ℕ) (values : List (List ℕ)) → is_session_name name ≡ true → AreValueWords sights verb values → request_of sights (keyword verb ∷ name ∷ values) ≡ Some (verb, name)
 said_request sights Opening name values named are = (λ i. request_of sights (codes "open" ∷ name ∷ are i)) ∙ ap (λ b. cond b (Some (Opening, name)) None) named
 said_request sights Asking name values named are = (λ i. request_of sights (codes "act" ∷ name ∷ are i)) ∙ ap (λ b. cond b (Some (Asking, name)) None) named
 said_request sights (Observing o) name values named (long, is) =
@@ -158,39 +158,39 @@ observations_are_named sights declared values o = (
 )
 
 -- ---- commands
-request_within : (sights : List Decl) (line : ℕ) (verb : Verb) (name : List ℕ) (words : List (List ℕ)) (c : Command) → request_of sights words ≡ Some (verb, name) → command_of line (verb, name) ≡ Some c → IsWithin (count_of (sizes_of sights)) c
-request_within sights line Opening name words c e f = subst (IsWithin (count_of (sizes_of sights))) (some_is f) tt
-request_within sights line Asking name words c e f = subst (IsWithin (count_of (sizes_of sights))) (some_is f) tt
-request_within sights line Syncing name words c e f = subst (IsWithin (count_of (sizes_of sights))) (some_is f) tt
-request_within sights line Closing name words c e f = subst (IsWithin (count_of (sizes_of sights))) (some_is f) tt
+request_within : (sights : List Decl) (line : ℕ) (verb : Verb) (name : List ℕ) (words : List (List ℕ)) (c : Command) → request_of sights words ≡ Some (verb, name) → command_of line (verb, name) ≡ Some c → IsObservationWithin (count_of (sizes_of sights)) c
+request_within sights line Opening name words c e f = subst (IsObservationWithin (count_of (sizes_of sights))) (some_is f) tt
+request_within sights line Asking name words c e f = subst (IsObservationWithin (count_of (sizes_of sights))) (some_is f) tt
+request_within sights line Syncing name words c e f = subst (IsObservationWithin (count_of (sizes_of sights))) (some_is f) tt
+request_within sights line Closing name words c e f = subst (IsObservationWithin (count_of (sizes_of sights))) (some_is f) tt
 request_within sights line (Observing None) name words c e f = absurd (cc)
 request_within sights line (Observing (Some o)) name words c e f =
     let said = request_said sights words (Observing (Some o)) name e in
     let (xs, point, are, is) = reached 0 sights said.0 o (sym said.3.1) in
     let low = number-below (sizes_of sights) xs point in
-    subst (IsWithin (count_of (sizes_of sights))) (some_is f) (let less : o < count_of (sizes_of sights) = omega (arith, is, low) in less)
+    subst (IsObservationWithin (count_of (sizes_of sights))) (some_is f) (let less : o < count_of (sizes_of sights) = omega (arith, is, low) in less)
 
-on_within : (sights : List Decl) (line : ℕ) (text : List ℕ) → All (IsWithin (count_of (sizes_of sights))) (option_to_list (command_on sights line text))
+on_within : (sights : List Decl) (line : ℕ) (text : List ℕ) → All (IsObservationWithin (count_of (sizes_of sights))) (option_to_list (command_on sights line text))
 on_within sights line text = by_skip (is_skipped (words_of text))
   where
-    none : All (IsWithin (count_of (sizes_of sights))) []
+    none : All (IsObservationWithin (count_of (sizes_of sights))) []
     none k d less = absurd (omega (arith, less))
 
-    by_command : (request : Request) → request_of sights (words_of text) ≡ Some request → (o : Option Command) → command_of line request ≡ o → All (IsWithin (count_of (sizes_of sights))) (option_to_list o)
+    by_command : (request : Request) → request_of sights (words_of text) ≡ Some request → (o : Option Command) → command_of line request ≡ o → All (IsObservationWithin (count_of (sizes_of sights))) (option_to_list o)
     by_command request e None f = none
-    by_command (verb, name) e (Some c) f = All-cons (IsWithin (count_of (sizes_of sights))) c [] (request_within sights line verb name (words_of text) c e f) none
+    by_command (verb, name) e (Some c) f = All-cons (IsObservationWithin (count_of (sizes_of sights))) c [] (request_within sights line verb name (words_of text) c e f) none
 
-    by_request : (r : Option Request) → request_of sights (words_of text) ≡ r → All (IsWithin (count_of (sizes_of sights))) (option_to_list (option_and_then (command_of line) r))
+    by_request : (r : Option Request) → request_of sights (words_of text) ≡ r → All (IsObservationWithin (count_of (sizes_of sights))) (option_to_list (option_and_then (command_of line) r))
     by_request None e = none
     by_request (Some request) e = by_command request e (command_of line request) refl
 
-    by_skip : (b : Bool) → All (IsWithin (count_of (sizes_of sights))) (option_to_list (cond b None (option_and_then (command_of line) (request_of sights (words_of text)))))
+    by_skip : (b : Bool) → All (IsObservationWithin (count_of (sizes_of sights))) (option_to_list (cond b None (option_and_then (command_of line) (request_of sights (words_of text)))))
     by_skip true = none
     by_skip false = by_request (request_of sights (words_of text)) refl
 
-all_within : (sights : List Decl) (line : ℕ) (texts : List (List ℕ)) → All (IsWithin (count_of (sizes_of sights))) (commands_on sights line texts)
+all_within : (sights : List Decl) (line : ℕ) (texts : List (List ℕ)) → All (IsObservationWithin (count_of (sizes_of sights))) (commands_on sights line texts)
 all_within sights line [] = λ k d less. absurd (omega (arith, less))
-all_within sights line (text ∷ texts) = All-append (IsWithin (count_of (sizes_of sights))) (option_to_list (command_on sights (line + 1) text)) (commands_on sights (line + 1) texts) (on_within sights (line + 1) text) (all_within sights (line + 1) texts)
+all_within sights line (text ∷ texts) = All-append (IsObservationWithin (count_of (sizes_of sights))) (option_to_list (command_on sights (line + 1) text)) (commands_on sights (line + 1) texts) (on_within sights (line + 1) text) (all_within sights (line + 1) texts)
 
 pub observations_are_within : ObservationsAreWithin
-observations_are_within sights declared source cs script = subst (λ (ds : List Command). All (IsWithin (count_of (sizes_of sights))) ds) (sym script.commands) (all_within sights 0 (lines source))
+observations_are_within sights declared source cs script = subst (λ (ds : List Command). All (IsObservationWithin (count_of (sizes_of sights))) ds) (sym script.commands) (all_within sights 0 (lines source))

@@ -12,8 +12,8 @@ use Rattle.sp_script.specs.declared.request.Verb.{Verb}
 use Rattle.sp_script.specs.declared.request.Verb.TheVariants.{Opening, Asking, Observing, Syncing, Closing}
 use Rattle.sp_script.specs.Requests.{Request, is_session_name}
 use Rattle.sp_script.specs.Commands.{name_of, verb_of, request_with, is_opening, is_asking, is_observing, is_closing, was_asked, has_answer, opening_count, BreaksAfter, AreCommands}
-use Rattle.sp_script.specs.Script.{command_of, IsFirst, kinds}
-use Rattle.sp_script.specs.Ledger.{seat_by, seat_of, fault_at, seat_after, kept_seat, IsLedger}
+use Rattle.sp_script.specs.Script.{command_of, IsFirstKind, kinds}
+use Rattle.sp_script.specs.Ledger.{seat_by, seat_of, fault_at, seat_after, kept_seat, IsScriptLedger}
 use Rattle.sp_script.proofs.SeatLemmas.{Rows, Case, new, taken, first_fault, case_of, no_fault, unknown_first, seat_step, is_some-seat}
 use Rattle.sp_script.proofs.CommandLemmas.{commands_more, was_asked-more, has_answer-more, opening_count-more, bytes_same, bytes_self, asks_of-same, asks_of-other}
 use Rattle.std.proofs.Math.Bool.{or-false}
@@ -59,12 +59,12 @@ to_rows before v name NoAction h = h
 to_rows before v name UnknownValue h = h
 to_rows before v name (TooMany limit) h = h
 
-module _ (l : Ledger) (kept : IsLedger l) (v : Verb) (name : List ℕ) where
+module _ (l : Ledger) (kept : IsScriptLedger l) (v : Verb) (name : List ℕ) where
   fault_is : fault_at v (kept_seat l name) (index_map_len l.seats) ≡ fault_at v (seat_of name l.commands) (opening_count l.commands)
   fault_is i = fault_at v (kept.seats name i) (kept.count i)
 
   -- what the seat tells
-  pub refused : (kind : ScriptKind) → fault_at v (kept_seat l name) (index_map_len l.seats) ≡ Some kind → IsFirst (BreaksAfter l.commands (v, name)) kinds kind
+  pub refused : (kind : ScriptKind) → fault_at v (kept_seat l name) (index_map_len l.seats) ≡ Some kind → IsFirstKind (BreaksAfter l.commands (v, name)) kinds kind
   refused kind e = first_fault v (was_asked is_opening name l.commands) (was_asked is_closing name l.commands) (has_answer name l.commands) (opening_count l.commands) kind (sym fault_is ∙ e)
 
   pub case_here : fault_at v (kept_seat l name) (index_map_len l.seats) ≡ None → Case v (was_asked is_opening name l.commands) (was_asked is_closing name l.commands) (has_answer name l.commands) (opening_count l.commands)
@@ -73,7 +73,7 @@ module _ (l : Ledger) (kept : IsLedger l) (v : Verb) (name : List ℕ) where
   pub faultless : fault_at v (kept_seat l name) (index_map_len l.seats) ≡ None → v ≢ Observing None → (kind : ScriptKind) → ¬ BreaksAfter l.commands (v, name) kind
   faultless e known kind h = no_fault v (was_asked is_opening name l.commands) (was_asked is_closing name l.commands) (has_answer name l.commands) (opening_count l.commands) (case_here e) known kind (to_rows l.commands v name kind h)
 
-  pub unknown : fault_at v (kept_seat l name) (index_map_len l.seats) ≡ None → v ≡ Observing None → IsFirst (BreaksAfter l.commands (v, name)) kinds UnknownValue
+  pub unknown : fault_at v (kept_seat l name) (index_map_len l.seats) ≡ None → v ≡ Observing None → IsFirstKind (BreaksAfter l.commands (v, name)) kinds UnknownValue
   unknown e is = unknown_first v (was_asked is_opening name l.commands) (was_asked is_closing name l.commands) (has_answer name l.commands) (opening_count l.commands) (case_here e) is
 
 -- ---- what one more command changes
@@ -99,7 +99,7 @@ module _ (cs : List Command) (c : Command) (other : List ℕ) where
     seat_of-same i = seat_by (was_asked-same is_opening i) (was_asked-same is_closing i) (has_answer-same i)
 
 -- the ledger after a command that may come
-module _ (l m : Ledger) (kept : IsLedger l) (c : Command) (fits : fault_at (verb_of c) (kept_seat l (name_of c)) (index_map_len l.seats) ≡ None) (more : m.commands ≡ l.commands ++ c ∷ []) where
+module _ (l m : Ledger) (kept : IsScriptLedger l) (c : Command) (fits : fault_at (verb_of c) (kept_seat l (name_of c)) (index_map_len l.seats) ≡ None) (more : m.commands ≡ l.commands ++ c ∷ []) where
   opened_then : (other : List ℕ) → bytes_eq other (name_of c) ≡ true → was_asked is_opening other (l.commands ++ c ∷ []) ≡ true
   opened_then other same = was_asked-same l.commands c other same is_opening ∙ by_case (case_here l kept (verb_of c) (name_of c) fits)
     where
@@ -141,7 +141,7 @@ module _ (l m : Ledger) (kept : IsLedger l) (c : Command) (fits : fault_at (verb
 
   ledger_more : is_session_name (name_of c) ≡ true → ((kind : ScriptKind) → ¬ BreaksAfter l.commands (request_with c) kind)
       → ((other : List ℕ) → kept_seat m other ≡ cond (bytes_eq (name_of c) other) (Some (seat_after (verb_of c) (kept_seat l (name_of c)))) (kept_seat l other))
-      → index_map_len m.seats ≡ index_map_len l.seats + cond (is_some (kept_seat l (name_of c))) 0 1 → IsLedger m
+      → index_map_len m.seats ≡ index_map_len l.seats + cond (is_some (kept_seat l (name_of c))) 0 1 → IsScriptLedger m
   ledger_more named right seats count = record {
     known = subst AreCommands (sym more) (commands_more l.commands c kept.known named right);
     seats = λ other. seats other ∙ seat_then other (bytes_eq (name_of c) other) refl ∙ ap (seat_of other) (sym more);
@@ -157,7 +157,7 @@ pub clear : (l : Ledger) (v : Verb) (name : List ℕ) (seat : Option Seat) (coun
 clear l v name seat count found is at many want told = (λ i. fault_at v (sym at i) (sym many i)) ∙ sym is ∙ told
 
 -- the request's command, where nothing is wrong
-module _ (l : Ledger) (kept : IsLedger l) (v : Verb) (name : List ℕ) (line : ℕ) (c : Command) (fits : fault_at v (kept_seat l name) (index_map_len l.seats) ≡ None) (is : command_of line (v, name) ≡ Some c) where
+module _ (l : Ledger) (kept : IsScriptLedger l) (v : Verb) (name : List ℕ) (line : ℕ) (c : Command) (fits : fault_at v (kept_seat l name) (index_map_len l.seats) ≡ None) (is : command_of line (v, name) ≡ Some c) where
   verb_is : verb_of c ≡ v
   verb_is = (command_is line v name c is).0
 
@@ -178,7 +178,7 @@ module _ (l : Ledger) (kept : IsLedger l) (v : Verb) (name : List ℕ) (line : �
     commands_then = commands_more l.commands c kept.known command_named command_right
 
     pub ledger_then : (m : Ledger) (seat : Seat) → m.commands ≡ l.commands ++ c ∷ [] → seat ≡ seat_after v (kept_seat l name) → ((other : List ℕ) → kept_seat m other ≡ cond (bytes_eq name other) (Some seat) (kept_seat l other))
-        → index_map_len m.seats ≡ index_map_len l.seats + cond (is_some (kept_seat l name)) 0 1 → IsLedger m
+        → index_map_len m.seats ≡ index_map_len l.seats + cond (is_some (kept_seat l name)) 0 1 → IsScriptLedger m
     ledger_then m seat more set seats count =
         ledger_more l m kept c ((λ i. fault_at (verb_is i) (kept_seat l (called i)) (index_map_len l.seats)) ∙ fits) more command_named command_right
         (λ other. seats other ∙ (λ i. cond (bytes_eq (sym called i) other) (Some ((set ∙ (λ j. seat_after (sym verb_is j) (kept_seat l (sym called j)))) i)) (kept_seat l other)))

@@ -13,7 +13,7 @@ use Rattle.sp_script.specs.declared.error.ScriptError.TheVariants.{Fault, NoMemo
 use Rattle.sp_script.specs.declared.error.ScriptKind.{ScriptKind}
 use Rattle.sp_script.specs.Lines.{words_of, is_skipped}
 use Rattle.sp_script.specs.Requests.{request_of}
-use Rattle.sp_script.specs.Script.{command_on, commands_on, commands_before, Breaks, HasFault, kinds, IsFirst, IsFirstFault, IsRefused, IsScript}
+use Rattle.sp_script.specs.Script.{command_on, commands_on, commands_before, BreaksRule, HasFault, kinds, IsFirstKind, IsFirstFault, IsScriptRefused, IsScript}
 use Rattle.sp_script.specs.Reading.{IsRefusedOn, IsTakenOn}
 
 -- ---- the commands on one line more
@@ -40,7 +40,7 @@ at (y ∷ xs) (suc k) x rest e =
     record { here = h.here; front = ap (λ n. take n (y ∷ xs)) next ∙ ap (λ zs. y ∷ zs) h.front; behind = ap (λ n. drop n (y ∷ xs)) next ∙ h.behind; long = let e = h.long in omega (arith, e) }
 
 -- ---- faults
-first_alike : (P R : ScriptKind → Type 0) → ((x : ScriptKind) → P x → R x) → ((x : ScriptKind) → R x → P x) → (xs : List ScriptKind) (c : ScriptKind) → IsFirst P xs c → IsFirst R xs c
+first_alike : (P R : ScriptKind → Type 0) → ((x : ScriptKind) → P x → R x) → ((x : ScriptKind) → R x → P x) → (xs : List ScriptKind) (c : ScriptKind) → IsFirstKind P xs c → IsFirstKind R xs c
 first_alike P R to back [] c f = f
 first_alike P R to back (x ∷ xs) c (inl (e, p)) = inl (e, to x p)
 first_alike P R to back (x ∷ xs) c (inr (un, f)) = inr (λ r. un (back x r), first_alike P R to back xs c f)
@@ -58,23 +58,23 @@ module _ (sights : List Decl) (source rest : List ℕ) (number : ℕ) (cs : List
   same_line : (other : List ℕ) → slice_get (lines source) number ≡ Some other → other ≡ line
   same_line other e = let h = place.here in cc
 
-  to_fault : is_skipped (words_of line) ≡ false → (kind : ScriptKind) → Breaks cs (request_of sights (words_of line)) kind → HasFault sights source number kind
-  to_fault told kind h = (line, place.here, told, subst (λ (before : List Command). Breaks before (request_of sights (words_of line)) kind) read.commands h)
+  to_fault : is_skipped (words_of line) ≡ false → (kind : ScriptKind) → BreaksRule cs (request_of sights (words_of line)) kind → HasFault sights source number kind
+  to_fault told kind h = (line, place.here, told, subst (λ (before : List Command). BreaksRule before (request_of sights (words_of line)) kind) read.commands h)
 
-  from_fault : (kind : ScriptKind) → HasFault sights source number kind → (is_skipped (words_of line) ≡ false) × Breaks cs (request_of sights (words_of line)) kind
+  from_fault : (kind : ScriptKind) → HasFault sights source number kind → (is_skipped (words_of line) ≡ false) × BreaksRule cs (request_of sights (words_of line)) kind
   from_fault kind (other, is, told, h) =
       let same = same_line other is in
-      (ap (λ l. is_skipped (words_of l)) (sym same) ∙ told, subst (λ (before : List Command). Breaks before (request_of sights (words_of line)) kind) (sym read.commands) (subst (λ (l : List ℕ). Breaks (commands_before sights source number) (request_of sights (words_of l)) kind) same h))
+      (ap (λ l. is_skipped (words_of l)) (sym same) ∙ told, subst (λ (before : List Command). BreaksRule before (request_of sights (words_of line)) kind) (sym read.commands) (subst (λ (l : List ℕ). BreaksRule (commands_before sights source number) (request_of sights (words_of l)) kind) same h))
 
   -- the line is at fault
-  pub read_refused : is_skipped (words_of line) ≡ false → (kind : ScriptKind) → IsFirst (Breaks cs (request_of sights (words_of line))) kinds kind → IsFirstFault sights source number kind
+  pub read_refused : is_skipped (words_of line) ≡ false → (kind : ScriptKind) → IsFirstKind (BreaksRule cs (request_of sights (words_of line))) kinds kind → IsFirstFault sights source number kind
   read_refused told kind first = record {
-    fault = first_alike (Breaks cs (request_of sights (words_of line))) (HasFault sights source number) (to_fault told) (λ k h. (from_fault k h).1) kinds kind first;
+    fault = first_alike (BreaksRule cs (request_of sights (words_of line))) (HasFault sights source number) (to_fault told) (λ k h. (from_fault k h).1) kinds kind first;
     earlier = λ j other less. read.faultless j other less;
   }
 
   -- so the script is refused
-  pub refused_by : (error : ScriptError) → IsRefusedOn sights (number + 1) line cs error → IsRefused sights source error
+  pub refused_by : (error : ScriptError) → IsRefusedOn sights (number + 1) line cs error → IsScriptRefused sights source error
   refused_by (Fault at kind) (is, told, first) = (number, is, read_refused told kind first)
   refused_by NoMemory told = tt
 

@@ -7,7 +7,7 @@ use Rattle.sp_script.specs.declared.error.ScriptKind.TheVariants.{BadLine, NotOp
 use Rattle.sp_script.specs.declared.request.Verb.{Verb}
 use Rattle.sp_script.specs.declared.request.Verb.TheVariants.{Opening, Asking, Observing, Syncing, Closing}
 use Rattle.sp_script.specs.Commands.{is_opening, is_asking, is_observing, is_closing}
-use Rattle.sp_script.specs.Script.{IsFirst, kinds}
+use Rattle.sp_script.specs.Script.{IsFirstKind, kinds}
 use Rattle.sp_script.specs.Ledger.{seat_by, fault_at, seat_after}
 
 -- what a request breaks at a session that was opened or not, was closed or not, has an answer or not, where so many were opened
@@ -21,28 +21,28 @@ Rows v o c a n (TooMany limit) = (is_opening v ≡ true) × (limit ≡ 1024) × 
 
 -- ---- the first fault
 module _ (v : Verb) (o c a : Bool) (n : ℕ) (kind : ScriptKind) where
-  at_not_open : is_opening v ≡ false → (o && not c) ≡ false → Some NotOpen ≡ Some kind → IsFirst (Rows v o c a n) kinds kind
+  at_not_open : is_opening v ≡ false → (o && not c) ≡ false → Some NotOpen ≡ Some kind → IsFirstKind (Rows v o c a n) kinds kind
   at_not_open p r e = let is : kind ≡ NotOpen = cc in inr ((λ x. x), inl (is, (p, r)))
 
-  at_twice : is_opening v ≡ true → o ≡ true → Some Twice ≡ Some kind → IsFirst (Rows v o c a n) kinds kind
+  at_twice : is_opening v ≡ true → o ≡ true → Some Twice ≡ Some kind → IsFirstKind (Rows v o c a n) kinds kind
   at_twice p r e = let is : kind ≡ Twice = cc in inr ((λ x. x), inr ((λ x. let h = x.0 in absurd (cc)), inl (is, (p, r))))
 
-  at_no_action : is_opening v ≡ false → is_observing v ≡ true → (o && not c) ≡ true → a ≡ false → Some NoAction ≡ Some kind → IsFirst (Rows v o c a n) kinds kind
+  at_no_action : is_opening v ≡ false → is_observing v ≡ true → (o && not c) ≡ true → a ≡ false → Some NoAction ≡ Some kind → IsFirstKind (Rows v o c a n) kinds kind
   at_no_action p s r t e = let is : kind ≡ NoAction = cc in inr ((λ x. x), inr ((λ x. let h = x.1 in absurd (cc)), inr ((λ x. let h = x.0 in absurd (cc)), inl (is, (s, t)))))
 
-  at_too_many : is_opening v ≡ true → is_observing v ≡ false → v ≢ Observing None → o ≡ false → 1024 ≤ n → Some (TooMany 1024) ≡ Some kind → IsFirst (Rows v o c a n) kinds kind
+  at_too_many : is_opening v ≡ true → is_observing v ≡ false → v ≢ Observing None → o ≡ false → 1024 ≤ n → Some (TooMany 1024) ≡ Some kind → IsFirstKind (Rows v o c a n) kinds kind
   at_too_many p s u r t e =
       let is : kind ≡ TooMany 1024 = cc in
       inr ((λ x. x), inr ((λ x. let h = x.0 in absurd (cc)), inr ((λ x. let h = x.1 in absurd (cc)), inr ((λ x. let h = x.0 in absurd (cc)), inr (u, inl (is, (p, refl, t)))))))
 
-at_unknown : (v : Verb) (o c a : Bool) (n : ℕ) → v ≡ Observing None → is_opening v ≡ false → (o && not c) ≡ true → a ≡ true → IsFirst (Rows v o c a n) kinds UnknownValue
+at_unknown : (v : Verb) (o c a : Bool) (n : ℕ) → v ≡ Observing None → is_opening v ≡ false → (o && not c) ≡ true → a ≡ true → IsFirstKind (Rows v o c a n) kinds UnknownValue
 at_unknown v o c a n is p r t = inr ((λ x. x), inr ((λ x. let h = x.1 in absurd (cc)), inr ((λ x. let h = x.0 in absurd (cc)), inr ((λ x. let h = x.1 in absurd (cc)), inl (refl, is)))))
 
-opening_fault : (c a : Bool) (n : ℕ) (kind : ScriptKind) (few : Bool) → nat_lt n 1024 ≡ few → cond few None (Some (TooMany 1024)) ≡ Some kind → IsFirst (Rows Opening false c a n) kinds kind
+opening_fault : (c a : Bool) (n : ℕ) (kind : ScriptKind) (few : Bool) → nat_lt n 1024 ≡ few → cond few None (Some (TooMany 1024)) ≡ Some kind → IsFirstKind (Rows Opening false c a n) kinds kind
 opening_fault c a n kind true is e = absurd (cc)
 opening_fault c a n kind false is e = at_too_many Opening false c a n kind refl refl (λ h. absurd (cc)) refl (ltb-false n 1024 is) e
 
-pub first_fault : (v : Verb) (o c a : Bool) (n : ℕ) (kind : ScriptKind) → fault_at v (seat_by o c a) n ≡ Some kind → IsFirst (Rows v o c a n) kinds kind
+pub first_fault : (v : Verb) (o c a : Bool) (n : ℕ) (kind : ScriptKind) → fault_at v (seat_by o c a) n ≡ Some kind → IsFirstKind (Rows v o c a n) kinds kind
 first_fault Opening false c a n kind e = opening_fault c a n kind (nat_lt n 1024) refl e
 first_fault Asking false c a n kind e = at_not_open Asking false c a n kind refl refl e
 first_fault (Observing s) false c a n kind e = at_not_open (Observing s) false c a n kind refl refl e
@@ -107,7 +107,7 @@ no_fault v o c a n (new is none few) known (TooMany limit) h = let e = h.1 in le
 no_fault v o c a n (taken plain is going answered) known (TooMany limit) h = let e = h.0 in absurd (cc)
 
 -- where a value isn't known
-pub unknown_first : (v : Verb) (o c a : Bool) (n : ℕ) → Case v o c a n → v ≡ Observing None → IsFirst (Rows v o c a n) kinds UnknownValue
+pub unknown_first : (v : Verb) (o c a : Bool) (n : ℕ) → Case v o c a n → v ≡ Observing None → IsFirstKind (Rows v o c a n) kinds UnknownValue
 unknown_first v o c a n (new is none few) e = absurd (cc)
 unknown_first v o c a n (taken plain is going answered) e =
     at_unknown v o c a n e plain ((λ i. is i && not (going i)) ∙ refl) (answered (ap is_observing e))

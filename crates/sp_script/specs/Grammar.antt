@@ -16,16 +16,16 @@ keyword Syncing = codes "sync"
 keyword Closing = codes "close"
 
 -- the words behind the session's name: for an observation one for each observation variable, and else none
-abbrev pub AreValues : List Decl → Verb → List (List ℕ) → Type 0
-AreValues sights (Observing o) values = (length values ≡ length sights) × (o ≡ observation_of sights values)
-AreValues sights Opening values = values ≡ []
-AreValues sights Asking values = values ≡ []
-AreValues sights Syncing values = values ≡ []
-AreValues sights Closing values = values ≡ []
+abbrev pub AreValueWords : List Decl → Verb → List (List ℕ) → Type 0
+AreValueWords sights (Observing o) values = (length values ≡ length sights) × (o ≡ observation_of sights values)
+AreValueWords sights Opening values = values ≡ []
+AreValueWords sights Asking values = values ≡ []
+AreValueWords sights Syncing values = values ≡ []
+AreValueWords sights Closing values = values ≡ []
 
 -- words that ask for that, of the session of that name
-abbrev pub Says : List Decl → List (List ℕ) → Verb → List ℕ → Type 0
-Says sights words verb name = (values : List (List ℕ)) × (words ≡ keyword verb ∷ name ∷ values) × (is_session_name name ≡ true) × AreValues sights verb values
+abbrev pub WordsSay : List Decl → List (List ℕ) → Verb → List ℕ → Type 0
+WordsSay sights words verb name = (values : List (List ℕ)) × (words ≡ keyword verb ∷ name ∷ values) × (is_session_name name ≡ true) × AreValueWords sights verb values
 
 -- each value has the name, one observation variable after another
 abbrev pub AreNamed : List Decl → List ℕ → List (List ℕ) → Type 0

@@ -14,7 +14,7 @@ use Rattle.sp_script.specs.declared.ledger.Seat.TheVariants.{Silent, Answered, C
 use Rattle.sp_script.specs.declared.ledger.Ledger.{Ledger}
 use Rattle.sp_script.specs.Requests.{Request}
 use Rattle.sp_script.specs.Commands.{is_opening, is_closing, was_asked, has_answer, opening_count, BreaksAfter, AreCommands}
-use Rattle.sp_script.specs.Script.{command_of, IsFirst, kinds}
+use Rattle.sp_script.specs.Script.{command_of, IsFirstKind, kinds}
 
 -- ---- seats
 -- how a session stands, by whether it was opened, whether it was closed, and whether it has an answer
@@ -55,18 +55,18 @@ abbrev pub kept_seat : Ledger → List ℕ → Option Seat
 kept_seat l name = get_by (λ k. bytes_eq name k.now) l.seats
 
 -- it keeps how each session stands, and how many there are; what was not opened was not closed and has no answer
-pub record IsLedger (l : Ledger) : Type 0 where
+pub record IsScriptLedger (l : Ledger) : Type 0 where
   pub known : AreCommands l.commands
   pub seats : (name : List ℕ) → kept_seat l name ≡ seat_of name l.commands
   pub count : index_map_len l.seats ≡ opening_count l.commands
   pub idle : (name : List ℕ) → was_asked is_opening name l.commands ≡ false → (was_asked is_closing name l.commands ≡ false) × (has_answer name l.commands ≡ false)
 
 -- the request is entered as the command that it is, and breaks nothing
-pub record IsEntered (before : List Command) (request : Request) (line : ℕ) (after : List Command) : Type 0 where
+pub record IsRequestEntered (before : List Command) (request : Request) (line : ℕ) (after : List Command) : Type 0 where
   pub command : (c : Command) × (command_of line request ≡ Some c) × (after ≡ before ++ c ∷ [])
   pub faultless : (kind : ScriptKind) → ¬ BreaksAfter before request kind
 
 -- why a request on that line isn't entered
 abbrev pub IsRefusedAfter : List Command → Request → ℕ → ScriptError → Type 0
-IsRefusedAfter before request line (Fault at kind) = (at ≡ line) × IsFirst (BreaksAfter before request) kinds kind
+IsRefusedAfter before request line (Fault at kind) = (at ≡ line) × IsFirstKind (BreaksAfter before request) kinds kind
 IsRefusedAfter before request line NoMemory = ⊤

@@ -39,24 +39,24 @@ commands_before sights source k = commands_on sights 0 (take k (lines source))
 
 -- ---- faults
 -- what the line breaks: its grammar, or a rule after the commands before it
-abbrev pub Breaks : List Command → Option Request → ScriptKind → Type 0
-Breaks before None kind = kind ≡ BadLine
-Breaks before (Some request) kind = BreaksAfter before request kind
+abbrev pub BreaksRule : List Command → Option Request → ScriptKind → Type 0
+BreaksRule before None kind = kind ≡ BadLine
+BreaksRule before (Some request) kind = BreaksAfter before request kind
 
 -- the line behind the first k isn't skipped, and is at fault in that way
 abbrev pub HasFault : List Decl → List ℕ → ℕ → ScriptKind → Type 0
 HasFault sights source k kind =
     (line : List ℕ) × (slice_get (lines source) k ≡ Some line) × (is_skipped (words_of line) ≡ false)
-    × Breaks (commands_before sights source k) (request_of sights (words_of line)) kind
+    × BreaksRule (commands_before sights source k) (request_of sights (words_of line)) kind
 
 -- the order of the kinds
 abbrev pub kinds : List ScriptKind
 kinds = BadLine ∷ NotOpen ∷ Twice ∷ NoAction ∷ UnknownValue ∷ TooMany 1024 ∷ []
 
 -- of kinds in order, the first one that holds
-abbrev pub IsFirst : (ScriptKind → Type 0) → List ScriptKind → ScriptKind → Type 0
-IsFirst P [] kind = ⊥
-IsFirst P (first ∷ more) kind = ((kind ≡ first) × P first) ⊎ ((¬ P first) × IsFirst P more kind)
+abbrev pub IsFirstKind : (ScriptKind → Type 0) → List ScriptKind → ScriptKind → Type 0
+IsFirstKind P [] kind = ⊥
+IsFirstKind P (first ∷ more) kind = ((kind ≡ first) × P first) ⊎ ((¬ P first) × IsFirstKind P more kind)
 
 -- ---- what is read
 -- a script and its commands: no line is at fault
@@ -66,10 +66,10 @@ pub record IsScript (sights : List Decl) (source : List ℕ) (cs : List Command)
 
 -- the line behind the first k is the first that is at fault, and that is its first fault
 pub record IsFirstFault (sights : List Decl) (source : List ℕ) (k : ℕ) (kind : ScriptKind) : Type 0 where
-  pub fault : IsFirst (HasFault sights source k) kinds kind
+  pub fault : IsFirstKind (HasFault sights source k) kinds kind
   pub earlier : (j : ℕ) (other : ScriptKind) → j < k → ¬ HasFault sights source j other
 
 -- why a text is no script: lines are numbered from 1
-abbrev pub IsRefused : List Decl → List ℕ → ScriptError → Type 0
-IsRefused sights source (Fault line kind) = (k : ℕ) × (line ≡ k + 1) × IsFirstFault sights source k kind
-IsRefused sights source NoMemory = ⊤
+abbrev pub IsScriptRefused : List Decl → List ℕ → ScriptError → Type 0
+IsScriptRefused sights source (Fault line kind) = (k : ℕ) × (line ≡ k + 1) × IsFirstFault sights source k kind
+IsScriptRefused sights source NoMemory = ⊤

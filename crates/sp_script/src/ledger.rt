@@ -3,7 +3,7 @@
 ghost use Rattle.std.specs.Prelude.{◌≡◌, ◌+◌, ℕ, List, [], true, IfOk, IfErr, OnOk, if◌then◌else◌, is_some, Some};
 ghost use Rattle.std.specs.Str.{bytes_eq};
 ghost use Rattle.indexmap.specs.IndexMap.{index_map_len};
-ghost use Rattle.sp_script.specs.Ledger.{IsEntered, IsLedger, IsRefusedAfter, fault_at, kept_seat, seat_after};
+ghost use Rattle.sp_script.specs.Ledger.{IsRequestEntered, IsScriptLedger, IsRefusedAfter, fault_at, kept_seat, seat_after};
 ghost use Rattle.sp_script.specs.PlainRequests.{plain_request};
 ghost use Rattle.sp_script.specs.Requests.{is_session_name};
 ghost use Rattle.sp_script.specs.Script.{command_of};
@@ -104,7 +104,7 @@ impl<'a> Ledger<'a> {
     /// No command; it takes its memory from `alloc` as it grows.
     pub fn new(alloc: Global) -> Ledger<'a>
         ensures value { result.commands ≡ [] }
-        ensures kept { IsLedger result }
+        ensures kept { IsScriptLedger result }
     {
         Ledger {
             seats: IndexMap::new(alloc),
@@ -138,10 +138,10 @@ impl<'a> Ledger<'a> {
         request: Request<'a>,
         line: u64,
     ) -> Result<(), ScriptError>
-        requires kept { IsLedger self.old }
+        requires kept { IsScriptLedger self.old }
         requires name { is_session_name request.name.now ≡ true }
-        ensures entered { OnOk result (IsEntered self.old.commands (plain_request request.entry) line self.new.commands) }
-        ensures kept { OnOk result (IsLedger self.new) }
+        ensures entered { OnOk result (IsRequestEntered self.old.commands (plain_request request.entry) line self.new.commands) }
+        ensures kept { OnOk result (IsScriptLedger self.new) }
         ensures err { IfErr result (IsRefusedAfter self.old.commands (plain_request request.entry) line) }
     {
         let seat = self.seat_of(request.name);

@@ -4,9 +4,9 @@ ghost use Rattle.std.specs.Prelude.{◌≡◌, ◌≤◌, [], All, IfErr, IfOk, 
 ghost use Rattle.sp_theory.specs.Points.{count_of};
 ghost use Rattle.sp_model.specs.Kept.{IsDecl};
 ghost use Rattle.sp_model.specs.Problem.{sizes_of};
-ghost use Rattle.sp_script.specs.Ledger.{IsLedger};
+ghost use Rattle.sp_script.specs.Ledger.{IsScriptLedger};
 ghost use Rattle.sp_script.specs.Reading.{IsRefusedOn, IsTakenOn};
-ghost use Rattle.sp_script.specs.Script.{IsRefused, IsScript};
+ghost use Rattle.sp_script.specs.Script.{IsScriptRefused, IsScript};
 
 use crate::command::Commands;
 use crate::error::{ScriptError, ScriptKind};
@@ -27,9 +27,9 @@ fn take_line<'a>(
 ) -> Result<(), ScriptError>
     requires declared { All IsDecl sights.now }
     requires few { count_of (sizes_of sights.now) ≤ 4096 }
-    requires kept { IsLedger ledger.old }
+    requires kept { IsScriptLedger ledger.old }
     ensures taken { OnOk result (IsTakenOn sights.now number line.now ledger.old.commands ledger.new.commands) }
-    ensures kept { OnOk result (IsLedger ledger.new) }
+    ensures kept { OnOk result (IsScriptLedger ledger.new) }
     ensures err { IfErr result (IsRefusedOn sights.now number line.now ledger.old.commands) }
 {
     split_words(line, words)?;
@@ -55,10 +55,10 @@ fn take_lines<'a>(
 ) -> Result<(), ScriptError>
     requires declared { All IsDecl sights.now }
     requires few { count_of (sizes_of sights.now) ≤ 4096 }
-    requires kept { IsLedger ledger.old }
+    requires kept { IsScriptLedger ledger.old }
     requires none { ledger.old.commands ≡ [] }
     ensures ok { OnOk result (IsScript sights.now source.now ledger.new.commands) }
-    ensures err { IfErr result (IsRefused sights.now source.now) }
+    ensures err { IfErr result (IsScriptRefused sights.now source.now) }
 {
     let mut rest = source;
     let mut number = 0;
@@ -78,7 +78,7 @@ fn take_lines<'a>(
 /// looking up of names.
 pub fn read_script(alloc: Global, source: &[u8], model: &Model) -> Result<Commands, ScriptError>
     ensures ok { IfOk result (IsScript model.now.sights source.now) }
-    ensures err { IfErr result (IsRefused model.now.sights source.now) }
+    ensures err { IfErr result (IsScriptRefused model.now.sights source.now) }
 {
     let sights = model.parts().sights.as_slice();
     let mut words = Vec::new(alloc);

@@ -15,10 +15,10 @@ use Rattle.sp_script.specs.declared.command.Command.{Command}
 use Rattle.sp_script.specs.declared.error.ScriptKind.{ScriptKind}
 use Rattle.sp_script.specs.declared.error.ScriptKind.TheVariants.{NotOpen}
 use Rattle.sp_script.specs.Commands.{name_of, verb_of, request_with, is_opening, is_observing, is_closing, asks_of, was_asked, has_answer, BreaksAfter, AreCommands}
-use Rattle.sp_script.specs.Laws.{IsWithin}
+use Rattle.sp_script.specs.Laws.{IsObservationWithin}
 use Rattle.sp_script.specs.Served.{opened_names}
 use Rattle.sp_script.proofs.CommandLemmas.{bytes_same, bytes_self}
-use Rattle.sp_serving.specs.Replies.{Shown, session_in, replied, log_with}
+use Rattle.sp_serving.specs.Replies.{Shown, session_in, log_after_command, log_with}
 use Rattle.sp_serving.specs.Progress.{IsReady, AreUnderWay}
 use Rattle.sp_serving.specs.Serving.{log_in, IsSeatOf, IsFor, ServingParts, IsServing, after_first}
 use Rattle.sp_serving.proofs.Commanding.{faultless_at, commands_on, commands_first, is_answered}
@@ -53,11 +53,11 @@ bytes_differ : (xs ys : List ℕ) → xs ≢ ys → bytes_eq xs ys ≡ false
 bytes_differ xs ys differ = false_from_ne_true (bytes_eq xs ys) (λ same. differ (bytes_same xs ys same))
 
 module _ (m : Model) (shown : Shown) (c : Command) where
-  own_log : (log : Log) → log.name ≡ name_of c → log_with m shown c log ≡ replied m shown c log
-  own_log log is = ap (λ (b : Bool). cond b (replied m shown c log) log) (ap (λ (name : List ℕ). bytes_eq name (name_of c)) is ∙ bytes_self (name_of c))
+  own_log : (log : Log) → log.name ≡ name_of c → log_with m shown c log ≡ log_after_command m shown c log
+  own_log log is = ap (λ (b : Bool). cond b (log_after_command m shown c log) log) (ap (λ (name : List ℕ). bytes_eq name (name_of c)) is ∙ bytes_self (name_of c))
 
   other_log : (log : Log) → log.name ≢ name_of c → log_with m shown c log ≡ log
-  other_log log differ = ap (λ (b : Bool). cond b (replied m shown c log) log) (bytes_differ log.name (name_of c) differ)
+  other_log log differ = ap (λ (b : Bool). cond b (log_after_command m shown c log) log) (bytes_differ log.name (name_of c) differ)
 
   other_logs : (logs : List Log) → All (λ log. log.name ≢ name_of c) logs → map (log_with m shown c) logs ≡ logs
   other_logs [] differ = refl
@@ -65,10 +65,10 @@ module _ (m : Model) (shown : Shown) (c : Command) where
 
   -- of logs with different names that of the command's session alone changes
   pub one_replied : (logs : List Log) (place : ℕ) (log : Log) → place < length logs → get_or logs place log ≡ log → log.name ≡ name_of c → AllPairs (λ x y. x.name ≢ y.name) logs
-      → set logs place (replied m shown c log) ≡ map (log_with m shown c) logs
+      → set logs place (log_after_command m shown c log) ≡ map (log_with m shown c) logs
   one_replied [] place log less at name differ = absurd (omega (arith, less))
   one_replied (x ∷ xs) zero log less at name differ =
-      (λ i. replied m shown c (sym at i) ∷ sym (other_logs xs others) i) ∙ (λ i. sym (own_log x (ap (λ (l : Log). l.name) at ∙ name)) i ∷ map (log_with m shown c) xs)
+      (λ i. log_after_command m shown c (sym at i) ∷ sym (other_logs xs others) i) ∙ (λ i. sym (own_log x (ap (λ (l : Log). l.name) at ∙ name)) i ∷ map (log_with m shown c) xs)
     where
       others : All (λ l. l.name ≢ name_of c) xs
       others k d within h = differ zero (suc k) d (omega arith) (omega (arith, within)) (ap (λ (l : Log). l.name) at ∙ name ∙ sym h)
@@ -96,9 +96,9 @@ module _ (t : TaskParts) (before : List Command) (n : ℕ) (c : Command) (faultl
   pub seat_is : (k : ℕ) → n ≤ k → IsSeatOf t k s
   seat_is k later = record { task = task; newest = subst (λ (x : Session). x.newest ≤ k) (sym session_is) (let low = ready.newest in omega (arith, low, later)) }
 
-  pub fits_session : s.name ≡ name_of c → IsWithin (count_of (sizes_of t.model.sights)) c → IsFor s c
+  pub fits_session : s.name ≡ name_of c → IsObservationWithin (count_of (sizes_of t.model.sights)) c → IsFor s c
   fits_session name within = record {
-    within = subst (λ (u : TaskParts). IsWithin (count_of (sizes_of u.model.sights)) c) (sym task) within;
+    within = subst (λ (u : TaskParts). IsObservationWithin (count_of (sizes_of u.model.sights)) c) (sym task) within;
     answered = λ observes. subst (λ (x : Session). IsSome x.acted) (sym session_is) (ready.answer (ap (λ (called : List ℕ). has_answer called before) name ∙ is_answered before c faultless observes));
   }
 
@@ -107,7 +107,7 @@ pub serving_on : (s : ServingParts) → IsServing s → (shown : Shown) → s.ne
 serving_on s is shown later c rest left = record {
   task = is.task;
   commands = commands_on s.served c rest are;
-  within = subst (All (IsWithin (count_of (sizes_of s.task.model.sights)))) (ap (λ (cs : List Command). s.served ++ cs) left ∙ sym (append_assoc s.served (c ∷ []) rest)) is.within;
+  within = subst (All (IsObservationWithin (count_of (sizes_of s.task.model.sights)))) (ap (λ (cs : List Command). s.served ++ cs) left ∙ sym (append_assoc s.served (c ∷ []) rest)) is.within;
   under = under_way_after (problem s.task.model) shown s.served s.newest later c (faultless_at s.served c rest are) s.logs is.under;
 }
   where

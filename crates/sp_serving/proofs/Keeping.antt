@@ -13,9 +13,9 @@ use Rattle.sp_session.specs.Sessions.{SessionParts, first_parts}
 use Rattle.sp_script.specs.declared.command.Command.{Command}
 use Rattle.sp_script.specs.declared.error.ScriptKind.{ScriptKind}
 use Rattle.sp_script.specs.Commands.{name_of, verb_of, request_with, is_opening, BreaksAfter, AreCommands}
-use Rattle.sp_script.specs.Laws.{IsWithin}
+use Rattle.sp_script.specs.Laws.{IsObservationWithin}
 use Rattle.sp_script.specs.Served.{opened_names}
-use Rattle.sp_serving.specs.Replies.{Shown, replied, log_with, new_log, logs_with}
+use Rattle.sp_serving.specs.Replies.{Shown, log_after_command, log_with, new_log, logs_with}
 use Rattle.sp_serving.specs.Progress.{IsReady}
 use Rattle.sp_serving.specs.Serving.{ServingParts, IsServing, IsSeatOf, IsFor, IsRepliedIn, log_in, with_next, after_first}
 use Rattle.sp_serving.specs.Kept.{parts_of, IsKeptBy}
@@ -24,7 +24,7 @@ use Rattle.sp_serving.proofs.Transcripts.{under_way_first}
 use Rattle.sp_serving.proofs.Advancing.{command_there, logs_apart, one_replied, seat_is, fits_session, serving_on}
 
 -- ---- before any command
-pub first_kept : (t : TaskParts) → IsTask t → (cs : List Command) → AreCommands cs → All (IsWithin (count_of (sizes_of t.model.sights))) cs → IsKeptBy t cs 0 0 []
+pub first_kept : (t : TaskParts) → IsTask t → (cs : List Command) → AreCommands cs → All (IsObservationWithin (count_of (sizes_of t.model.sights))) cs → IsKeptBy t cs 0 0 []
 first_kept t is cs are within = record {
   serving = record { task = is; commands = are; within = within; under = under_way_first (problem t.model) 0 };
   within = omega arith;
@@ -66,11 +66,11 @@ module _ (t : TaskParts) (cs : List Command) (count newest : ℕ) (sessions : Li
   faultless : (kind : ScriptKind) → ¬ BreaksAfter (take count cs) (request_with c) kind
   faultless = faultless_at (take count cs) c (drop (suc count) cs) are
 
-  within_is : IsWithin (count_of (sizes_of t.model.sights)) c
+  within_is : IsObservationWithin (count_of (sizes_of t.model.sights)) c
   within_is =
       let less = slice_get_within cs count c at in
-      let whole : All (IsWithin (count_of (sizes_of t.model.sights))) cs = subst (All (IsWithin (count_of (sizes_of t.model.sights)))) (take-append-drop count cs) kept.serving.within in
-      subst (IsWithin (count_of (sizes_of t.model.sights))) (get_or_from_slice_get cs count c c at) (whole count c less)
+      let whole : All (IsObservationWithin (count_of (sizes_of t.model.sights))) cs = subst (All (IsObservationWithin (count_of (sizes_of t.model.sights)))) (take-append-drop count cs) kept.serving.within in
+      subst (IsObservationWithin (count_of (sizes_of t.model.sights))) (get_or_from_slice_get cs count c c at) (whole count c less)
 
   -- ---- the names of the sessions
   names_are : map (λ (s : SessionParts). s.name) sessions ≡ opened_names (take count cs)
@@ -104,7 +104,7 @@ module _ (t : TaskParts) (cs : List Command) (count newest : ℕ) (sessions : Li
     fit_here name = fits_session t (take count cs) newest c faultless s task_is ready name within_is
 
     -- the logs after its reply
-    logs_replied : is_opening (verb_of c) ≡ false → s.name ≡ name_of c → (shown : Shown) (after : SessionParts) → log_in after ≡ replied (problem t.model) shown c (log_in s)
+    logs_replied : is_opening (verb_of c) ≡ false → s.name ≡ name_of c → (shown : Shown) (after : SessionParts) → log_in after ≡ log_after_command (problem t.model) shown c (log_in s)
         → map log_in (set sessions place after) ≡ logs_with (problem t.model) shown (map log_in sessions) c
     logs_replied plain name shown after is =
         map-set log_in sessions place after
@@ -144,7 +144,7 @@ module _ (t : TaskParts) (cs : List Command) (count newest : ℕ) (sessions : Li
       by_opening false e =
           let r = replies e in (
             ap (map log_in) r.is
-                ∙ logs_replied r.place r.before r.within r.there e r.name shown r.reply (subst (λ (u : TaskParts). log_in r.reply ≡ replied (problem u.model) shown c (log_in r.before)) (task_is r.place r.before r.within r.there) r.log),
+                ∙ logs_replied r.place r.before r.within r.there e r.name shown r.reply (subst (λ (u : TaskParts). log_in r.reply ≡ log_after_command (problem u.model) shown c (log_in r.before)) (task_is r.place r.before r.within r.there) r.log),
             subst (All (λ x. x.task ≡ t)) (sym r.is) (tasks_kept r.place r.before r.within r.there r.reply r.task),
           )
 

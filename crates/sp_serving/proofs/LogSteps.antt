@@ -9,17 +9,17 @@ use Rattle.sp_theory.specs.Points.{count_of}
 use Rattle.sp_theory.specs.Model.{Model}
 use Rattle.sp_theory.specs.Values.{Edition, greatest_member}
 use Rattle.sp_theory.specs.Agreement.{EditionsAgree}
-use Rattle.sp_theory.specs.Logs.{Entry, told, act, observe, unseen, closing, Session, opening_session, all_of, observed, IsAnswer, MayEnter, after_entry, IsLog, session_after, Log}
+use Rattle.sp_theory.specs.Logs.{Entry, told, act, observe, unseen, closing, Session, opening_session, all_of, weights_after_observation, IsAnswer, MayEnter, after_entry, IsLog, session_after, Log}
 use Rattle.sp_theory.proofs.Agreement.{greatest_member_agrees}
 use Rattle.sp_session.proofs.Entering.{session_after-append, log_append}
 use Rattle.sp_script.specs.declared.command.Command.{Command}
 use Rattle.sp_script.specs.declared.command.Command.TheVariants.{Open, Act, Observe, Sync, Close}
 use Rattle.sp_script.specs.declared.error.ScriptKind.{ScriptKind}
 use Rattle.sp_script.specs.Commands.{name_of, verb_of, request_with, is_opening, is_asking, is_observing, was_asked, has_answer, BreaksAfter}
-use Rattle.sp_script.specs.Laws.{IsWithin}
+use Rattle.sp_script.specs.Laws.{IsObservationWithin}
 use Rattle.sp_script.specs.Served.{opened_names, asks_entry, commands_of, IsReply, AreReplies}
 use Rattle.sp_script.proofs.CommandLemmas.{bytes_same}
-use Rattle.sp_serving.specs.Replies.{Shown, session_in, answer_in, reply, replied, log_with, closed_on, new_log, logs_with}
+use Rattle.sp_serving.specs.Replies.{Shown, session_in, answer_in, reply, log_after_command, log_with, closed_on, new_log, logs_with}
 use Rattle.sp_serving.specs.Laws.{IsShown}
 use Rattle.sp_serving.specs.Progress.{IsReady, IsIdle, AreUnderWay}
 use Rattle.sp_serving.proofs.Commanding.{opened-more, answer-other, answer-own, answer-idle, commands-other, commands-plain, commands-own, is_new, is_answered, idle_after}
@@ -27,11 +27,11 @@ use Rattle.sp_serving.proofs.Commanding.{opened-more, answer-other, answer-own, 
 -- ---- a fact of each log, after a command
 module _ (m : Model) (shown : Shown) (c : Command) (P Q : Log → Type 0) where
   -- a log that isn't the command's session's stays, and its own gets the reply
-  by_name : (log : Log) (b : Bool) → bytes_eq log.name (name_of c) ≡ b → (bytes_eq log.name (name_of c) ≡ false → Q log) → (bytes_eq log.name (name_of c) ≡ true → Q (replied m shown c log)) → Q (cond b (replied m shown c log) log)
+  by_name : (log : Log) (b : Bool) → bytes_eq log.name (name_of c) ≡ b → (bytes_eq log.name (name_of c) ≡ false → Q log) → (bytes_eq log.name (name_of c) ≡ true → Q (log_after_command m shown c log)) → Q (cond b (log_after_command m shown c log) log)
   by_name log true e other own = own e
   by_name log false e other own = other e
 
-  pub one_log : (log : Log) → (bytes_eq log.name (name_of c) ≡ false → Q log) → (bytes_eq log.name (name_of c) ≡ true → Q (replied m shown c log)) → Q (log_with m shown c log)
+  pub one_log : (log : Log) → (bytes_eq log.name (name_of c) ≡ false → Q log) → (bytes_eq log.name (name_of c) ≡ true → Q (log_after_command m shown c log)) → Q (log_with m shown c log)
   one_log log other own = by_name log (bytes_eq log.name (name_of c)) refl other own
 
   pub each_log : (logs : List Log) → All P logs → (is_opening (verb_of c) ≡ true → (log : Log) → P log → Q log) → (is_opening (verb_of c) ≡ true → Q (new_log c))
@@ -46,7 +46,7 @@ module _ (m : Model) (shown : Shown) (c : Command) (P Q : Log → Type 0) where
 name_same : (m : Model) (shown : Shown) (c : Command) (log : Log) → (log_with m shown c log).name ≡ log.name
 name_same m shown c log = by_name (bytes_eq log.name (name_of c))
   where
-    by_name : (b : Bool) → (cond b (replied m shown c log) log).name ≡ log.name
+    by_name : (b : Bool) → (cond b (log_after_command m shown c log) log).name ≡ log.name
     by_name true = refl
     by_name false = refl
 
@@ -86,7 +86,7 @@ module _ (m : Model) (shown : Shown) (before : List Command) (n : ℕ) (later : 
   rises : {k : ℕ} → k ≤ n → k ≤ shown.0
   rises less = omega (arith, later, less)
 
-  ready_own : (c : Command) (log : Log) → is_opening (verb_of c) ≡ false → bytes_eq log.name (name_of c) ≡ true → IsReady m before n log → IsReady m (before ++ c ∷ []) shown.0 (replied m shown c log)
+  ready_own : (c : Command) (log : Log) → is_opening (verb_of c) ≡ false → bytes_eq log.name (name_of c) ≡ true → IsReady m before n log → IsReady m (before ++ c ∷ []) shown.0 (log_after_command m shown c log)
   unfolding after_entry
   ready_own (Open name line) log other own ready = absurd (cc)
   ready_own (Act name line) log other own ready = record {
@@ -94,7 +94,7 @@ module _ (m : Model) (shown : Shown) (before : List Command) (n : ℕ) (later : 
     answer = λ h. acted_then m log (act shown.0 (answer_in m shown log).id (answer_in m shown log).action) refl;
   }
   ready_own (Observe name line o) log other own ready = record {
-    newest = quiet m log (is_some (observed m (session_in m log) o)) o shown.0 (rises ready.newest);
+    newest = quiet m log (is_some (weights_after_observation m (session_in m log) o)) o shown.0 (rises ready.newest);
     answer = λ h. absurd (let e = sym (answer-own before (Observe name line o) log.name own) ∙ h in no_answer (has_answer log.name before) e);
   }
     where
@@ -154,10 +154,10 @@ module _ (m : Model) (shown : Shown) (before : List Command) where
   replied_with : (c : Command) (log : Log) (x : Entry) → bytes_eq log.name (name_of c) ≡ true → asks_entry c ≡ true → IsReply c x → IsReplied before log → AreReplies (commands_of log.name (before ++ c ∷ [])) (log.entries ++ x ∷ [])
   replied_with c log x own asks is all = subst (λ (cs : List Command). AreReplies cs (log.entries ++ x ∷ [])) (sym (commands-own before c log.name own asks)) (replies_push (commands_of log.name before) log.entries c x all is)
 
-  replied_own : (c : Command) (log : Log) → is_opening (verb_of c) ≡ false → bytes_eq log.name (name_of c) ≡ true → IsReplied before log → IsReplied (before ++ c ∷ []) (replied m shown c log)
+  replied_own : (c : Command) (log : Log) → is_opening (verb_of c) ≡ false → bytes_eq log.name (name_of c) ≡ true → IsReplied before log → IsReplied (before ++ c ∷ []) (log_after_command m shown c log)
   replied_own (Open name line) log other own all = absurd (cc)
   replied_own (Act name line) log other own all = replied_with (Act name line) log (act shown.0 (answer_in m shown log).id (answer_in m shown log).action) own refl tt all
-  replied_own (Observe name line o) log other own all = by_seen (is_some (observed m (session_in m log) o))
+  replied_own (Observe name line o) log other own all = by_seen (is_some (weights_after_observation m (session_in m log) o))
     where
       by_seen : (b : Bool) → AreReplies (commands_of log.name (before ++ Observe name line o ∷ [])) (log.entries ++ cond b (observe o) (unseen o) ∷ [])
       by_seen true = replied_with (Observe name line o) log (observe o) own refl refl all
@@ -213,22 +213,22 @@ module _ (m : Model) (editions : List Edition) (shown : Shown) (n : ℕ) (is : I
     later : (session_in m log).newest ≤ shown.0
     later = let low = ready.newest in let rest = is.later in omega (arith, low, rest)
 
-    legal_seen : (o : ℕ) → o < count_of m.sight_sizes → IsSome (session_in m log).acted → (b : Bool) → is_some (observed m (session_in m log) o) ≡ b → IsLegalSoFar m editions (record log { entries = log.entries ++ cond b (observe o) (unseen o) ∷ [] })
+    legal_seen : (o : ℕ) → o < count_of m.sight_sizes → IsSome (session_in m log).acted → (b : Bool) → is_some (weights_after_observation m (session_in m log) o) ≡ b → IsLegalSoFar m editions (record log { entries = log.entries ++ cond b (observe o) (unseen o) ∷ [] })
     unfolding MayEnter after_entry
     legal_seen o less acted true seen = legal_with (observe o) (legal.going, less, seen) legal.going
-    legal_seen o less acted false seen = legal_with (unseen o) (legal.going, less, acted, none_is (observed m (session_in m log) o) seen) legal.going
+    legal_seen o less acted false seen = legal_with (unseen o) (legal.going, less, acted, none_is (weights_after_observation m (session_in m log) o) seen) legal.going
       where
         none_is : {X : Type 0} (x : Option X) → is_some x ≡ false → IsNone x
         none_is None e = refl
         none_is (Some y) e = absurd (cc)
 
-    pub legal_own : (c : Command) → is_opening (verb_of c) ≡ false → bytes_eq log.name (name_of c) ≡ true → ((kind : ScriptKind) → ¬ BreaksAfter before (request_with c) kind) → IsWithin (count_of m.sight_sizes) c → IsLegalSoFar m editions (replied m shown c log)
+    pub legal_own : (c : Command) → is_opening (verb_of c) ≡ false → bytes_eq log.name (name_of c) ≡ true → ((kind : ScriptKind) → ¬ BreaksAfter before (request_with c) kind) → IsObservationWithin (count_of m.sight_sizes) c → IsLegalSoFar m editions (log_after_command m shown c log)
     unfolding MayEnter after_entry
     legal_own (Open name line) other own faultless within = absurd (cc)
     legal_own (Act name line) other own faultless within =
         legal_with (act shown.0 (answer_in m shown log).id (answer_in m shown log).action) (legal.going, later, answer_is log) legal.going
     legal_own (Observe name line o) other own faultless within =
-        legal_seen o within (ready.answer (ap (λ (called : List ℕ). has_answer called before) (bytes_same log.name name own) ∙ is_answered before (Observe name line o) faultless refl)) (is_some (observed m (session_in m log) o)) refl
+        legal_seen o within (ready.answer (ap (λ (called : List ℕ). has_answer called before) (bytes_same log.name name own) ∙ is_answered before (Observe name line o) faultless refl)) (is_some (weights_after_observation m (session_in m log) o)) refl
     legal_own (Sync name line) other own faultless within = legal_with (told shown.0) (legal.going, later, slice_get_within editions shown.0 is.there.0 is.there.1) legal.going
     legal_own (Close name line) other own faultless within = record {
       allowed = subst (IsLog m (all_of editions) (opening_session m)) (sym (append-nil log.entries)) legal.allowed;
@@ -253,7 +253,7 @@ abbrev pub IsReadyAndLegal : Model → List Edition → List Command → ℕ →
 IsReadyAndLegal m editions before n log = IsReady m before n log × IsLegalSoFar m editions log
 
 pub legal_after : (m : Model) (editions : List Edition) (shown : Shown) (n : ℕ) → IsShown m editions n shown → (before : List Command) (c : Command)
-    → ((kind : ScriptKind) → ¬ BreaksAfter before (request_with c) kind) → IsWithin (count_of m.sight_sizes) c → (logs : List Log) → AreUnderWay m before n logs
+    → ((kind : ScriptKind) → ¬ BreaksAfter before (request_with c) kind) → IsObservationWithin (count_of m.sight_sizes) c → (logs : List Log) → AreUnderWay m before n logs
     → All (IsLegalSoFar m editions) logs → All (IsLegalSoFar m editions) (logs_with m shown logs c)
 legal_after m editions shown n is before c faultless within logs under legal =
     each_log m shown c (IsReadyAndLegal m editions before n) (IsLegalSoFar m editions) logs (λ k d less. (under.ready k d less, legal k d less))

@@ -13,10 +13,10 @@ use Rattle.sp_theory.proofs.Agreement.{greatest_member_agrees}
 use Rattle.sp_script.specs.declared.command.Command.{Command}
 use Rattle.sp_script.specs.declared.command.Command.TheVariants.{Open, Act, Observe, Sync, Close}
 use Rattle.sp_script.specs.Commands.{name_of, verb_of, is_opening, asks_of, was_asked, AreCommands}
-use Rattle.sp_script.specs.Laws.{IsWithin}
+use Rattle.sp_script.specs.Laws.{IsObservationWithin}
 use Rattle.sp_script.specs.Served.{opened_names, commands_of, IsWholeReply, AreServed}
 use Rattle.sp_script.proofs.CommandLemmas.{bytes_self}
-use Rattle.sp_serving.specs.Replies.{Shown, session_in, answer_in, reply, replied, log_with, closed_on, logs_with, logs_after, transcript_of}
+use Rattle.sp_serving.specs.Replies.{Shown, session_in, answer_in, reply, log_after_command, log_with, closed_on, logs_with, logs_after, transcript_of}
 use Rattle.sp_serving.specs.Laws.{IsShown, AreShown, ShownAgree, TranscriptsAreLegal, TranscriptsServe, NamesAreDifferent, TranscriptsAgree}
 use Rattle.sp_serving.specs.Progress.{IsIdle, AreUnderWay}
 use Rattle.sp_serving.proofs.Commanding.{faultless_at, commands_on, opened-more, is_new, idle_after}
@@ -110,7 +110,7 @@ again_shown : (m : Model) (editions : List Edition) (n : ℕ) (last : Shown) →
 again_shown m editions n last (is, whole) = (record { later = omega arith; there = is.there }, whole)
 
 module _ (m : Model) (editions : List Edition) where
-  legal_all : (shown : List Shown) (last : Shown) (before cs : List Command) (n : ℕ) (logs : List Log) → AreCommands (before ++ cs) → All (IsWithin (count_of m.sight_sizes)) cs → AreShown m editions n shown last
+  legal_all : (shown : List Shown) (last : Shown) (before cs : List Command) (n : ℕ) (logs : List Log) → AreCommands (before ++ cs) → All (IsObservationWithin (count_of m.sight_sizes)) cs → AreShown m editions n shown last
       → AreUnderWay m before n logs → All (IsLegalSoFar m editions) logs → IsLegalTranscript m editions (map (closed_on m last) (logs_after m shown last logs cs))
   unfolding logs_after
   legal_all shown last before [] n logs are within shows under legal =

@@ -20,5 +20,5 @@ pub record IsKeptBy (t : TaskParts) (cs : List Command) (count newest : ℕ) (se
 abbrev pub parts_in : Inside → ServingParts
 parts_in s = parts_of (arc_value s.task) s.commands s.count s.newest s.sessions.items
 
-abbrev pub IsKept : Inside → Type 0
-IsKept s = IsKeptBy (arc_value s.task) s.commands s.count s.newest s.sessions.items
+abbrev pub IsKeptInside : Inside → Type 0
+IsKeptInside s = IsKeptBy (arc_value s.task) s.commands s.count s.newest s.sessions.items

@@ -7,7 +7,7 @@ use Rattle.sp_theory.specs.Agreement.{EditionsAgree}
 use Rattle.sp_theory.specs.Logs.{IsLegalTranscript}
 use Rattle.sp_script.specs.declared.command.Command.{Command}
 use Rattle.sp_script.specs.Commands.{AreCommands}
-use Rattle.sp_script.specs.Laws.{IsWithin}
+use Rattle.sp_script.specs.Laws.{IsObservationWithin}
 use Rattle.sp_script.specs.Served.{AreServed}
 use Rattle.sp_serving.specs.Replies.{Shown, transcript_of}
 
@@ -32,7 +32,7 @@ ShownAgree m (x ∷ xs) [] = ⊥
 -- ---- laws
 -- a script that is served on editions of a run has legal logs
 abbrev pub TranscriptsAreLegal : Type 0
-TranscriptsAreLegal = (m : Model) (editions : List Edition) (shown : List Shown) (last : Shown) (cs : List Command) → AreCommands cs → All (IsWithin (count_of m.sight_sizes)) cs
+TranscriptsAreLegal = (m : Model) (editions : List Edition) (shown : List Shown) (last : Shown) (cs : List Command) → AreCommands cs → All (IsObservationWithin (count_of m.sight_sizes)) cs
     → AreShown m editions 0 shown last → IsLegalTranscript m editions (transcript_of m shown last cs)
 
 -- its logs are those of the script's sessions, and reply to each session's commands

@@ -4,7 +4,7 @@ use Rattle.std.specs.Str.{bytes_eq}
 use Rattle.sp_theory.specs.Model.{Model}
 use Rattle.sp_theory.specs.Values.{Edition, Member, greatest_member}
 use Rattle.sp_theory.specs.Book.{Book}
-use Rattle.sp_theory.specs.Logs.{Entry, told, act, observe, unseen, closing, Session, opening_session, observed, session_after, Log}
+use Rattle.sp_theory.specs.Logs.{Entry, told, act, observe, unseen, closing, Session, opening_session, weights_after_observation, session_after, Log}
 use Rattle.sp_script.specs.declared.command.Command.{Command}
 use Rattle.sp_script.specs.declared.command.Command.TheVariants.{Open, Act, Observe, Sync, Close}
 use Rattle.sp_script.specs.Commands.{name_of, verb_of, is_opening}
@@ -30,17 +30,17 @@ answer_in m shown log = greatest_member m shown.1 (session_in m log).weights
 abbrev pub reply : Model → Shown → Log → Command → List Entry
 reply m shown log (Open name line) = []
 reply m shown log (Act name line) = act shown.0 (answer_in m shown log).id (answer_in m shown log).action ∷ []
-reply m shown log (Observe name line o) = cond (is_some (observed m (session_in m log) o)) (observe o) (unseen o) ∷ []
+reply m shown log (Observe name line o) = cond (is_some (weights_after_observation m (session_in m log) o)) (observe o) (unseen o) ∷ []
 reply m shown log (Sync name line) = told shown.0 ∷ []
 reply m shown log (Close name line) = []
 
 -- a log after a command of its session
-abbrev pub replied : Model → Shown → Command → Log → Log
-replied m shown c log = record log { entries = log.entries ++ reply m shown log c }
+abbrev pub log_after_command : Model → Shown → Command → Log → Log
+log_after_command m shown c log = record log { entries = log.entries ++ reply m shown log c }
 
 -- a log after a command of some session
 abbrev pub log_with : Model → Shown → Command → Log → Log
-log_with m shown c log = cond (bytes_eq log.name (name_of c)) (replied m shown c log) log
+log_with m shown c log = cond (bytes_eq log.name (name_of c)) (log_after_command m shown c log) log
 
 -- a log with the closing answer on that edition
 abbrev pub closed_on : Model → Shown → Log → Log

@@ -9,8 +9,8 @@ use Rattle.sp_value.specs.Editions.{EditionParts, members_in}
 use Rattle.sp_session.specs.Sessions.{SessionParts, IsEntryOf, session_of}
 use Rattle.sp_script.specs.declared.command.Command.{Command}
 use Rattle.sp_script.specs.Commands.{name_of, verb_of, is_observing, AreCommands}
-use Rattle.sp_script.specs.Laws.{IsWithin}
-use Rattle.sp_serving.specs.Replies.{Shown, replied, logs_with, logs_after, closed_on}
+use Rattle.sp_script.specs.Laws.{IsObservationWithin}
+use Rattle.sp_serving.specs.Replies.{Shown, log_after_command, logs_with, logs_after, closed_on}
 use Rattle.sp_serving.specs.Progress.{AreUnderWay}
 
 -- ---- sessions
@@ -33,7 +33,7 @@ pub record IsSeatOf (t : TaskParts) (n : ℕ) (s : SessionParts) : Type 0 where
 
 -- a command that a session may be given: where it observes, the observation is of the model, and an answer came before it
 pub record IsFor (s : SessionParts) (c : Command) : Type 0 where
-  pub within : IsWithin (count_of (sizes_of s.task.model.sights)) c
+  pub within : IsObservationWithin (count_of (sizes_of s.task.model.sights)) c
   pub answered : is_observing (verb_of c) ≡ true → IsSome (session_of s).acted
 
 -- a session of the command's name has replied to it, and the others are as they were
@@ -44,7 +44,7 @@ pub record IsRepliedIn (shown : Shown) (c : Command) (sessions later : List Sess
   pub within : place < length sessions
   pub there : get_or sessions place before ≡ before
   pub name : before.name ≡ name_of c
-  pub log : log_in reply ≡ replied (problem before.task.model) shown c (log_in before)
+  pub log : log_in reply ≡ log_after_command (problem before.task.model) shown c (log_in before)
   pub task : reply.task ≡ before.task
   pub is : later ≡ set sessions place reply
 
@@ -63,7 +63,7 @@ pub record ServingParts : Type 0 where
 pub record IsServing (s : ServingParts) : Type 0 where
   pub task : IsTask s.task
   pub commands : AreCommands (s.served ++ s.left)
-  pub within : All (IsWithin (count_of (sizes_of s.task.model.sights))) (s.served ++ s.left)
+  pub within : All (IsObservationWithin (count_of (sizes_of s.task.model.sights))) (s.served ++ s.left)
   pub under : AreUnderWay (problem s.task.model) s.served s.newest s.logs
 
 -- before any command

@@ -5,7 +5,7 @@ ghost use Rattle.std.specs.Arc.{arc_value};
 ghost use Rattle.sp_model.specs.Problem.{problem};
 ghost use Rattle.sp_session.specs.Sessions.{first_parts};
 ghost use Rattle.sp_script.specs.Commands.{name_of, verb_of, is_opening};
-ghost use Rattle.sp_serving.specs.Replies.{replied};
+ghost use Rattle.sp_serving.specs.Replies.{log_after_command};
 ghost use Rattle.sp_serving.specs.Serving.{IsFor, IsRepliedIn, IsSeatOf, log_in, shown_in};
 
 use sp_dd::NoMemory;
@@ -96,7 +96,7 @@ fn reply(session: &mut Session, command: &Command, edition: &Arc<Edition>) -> Re
     requires plain { is_opening (verb_of command.now) ≡ false }
     requires seat { IsSeatOf (arc_value edition.now).task (arc_value edition.now).number session.old }
     requires fit { IsFor session.old command.now }
-    ensures ok { OnOk result (log_in session.new ≡ replied (problem session.old.task.model) (shown_in (arc_value edition.now)) command.now (log_in session.old)) }
+    ensures ok { OnOk result (log_in session.new ≡ log_after_command (problem session.old.task.model) (shown_in (arc_value edition.now)) command.now (log_in session.old)) }
     ensures task { session.new.task ≡ session.old.task }
     ensures err { OnErr result (session.new ≡ session.old) }
 {

@@ -5,7 +5,7 @@ ghost use Rattle.std.specs.Arc.{arc_value};
 ghost use Rattle.sp_theory.specs.Points.{count_of};
 ghost use Rattle.sp_model.specs.Problem.{problem, sizes_of};
 ghost use Rattle.sp_session.specs.Logs.{logs_of};
-ghost use Rattle.sp_script.specs.Laws.{IsWithin};
+ghost use Rattle.sp_script.specs.Laws.{IsObservationWithin};
 ghost use Rattle.sp_serving.specs.Replies.{transcript_of};
 ghost use Rattle.sp_serving.specs.Serving.{HasEntriesOf, shown_in};
 
@@ -39,11 +39,11 @@ impl Model for Serving {
 
     ghost Value = { ServingParts };
 
-    ghost use Rattle.sp_serving.specs.Kept.{parts_in, IsKept};
+    ghost use Rattle.sp_serving.specs.Kept.{parts_in, IsKeptInside};
 
     ghost view = { parts_in };
 
-    ghost invariant = { IsKept };
+    ghost invariant = { IsKeptInside };
 }
 
 impl Serving {
@@ -51,7 +51,7 @@ impl Serving {
 
     /// A script before any command. Later calls take their memory from `alloc`.
     pub fn new(alloc: Global, task: Arc<Task>, commands: Commands) -> Serving
-        requires { All (IsWithin (count_of (sizes_of (arc_value task).model.sights))) commands }
+        requires { All (IsObservationWithin (count_of (sizes_of (arc_value task).model.sights))) commands }
         ensures { result ≡ first_serving (arc_value task) commands }
     {
         let _ = commands.as_slice();
@@ -131,7 +131,7 @@ pub fn serve_all(
     commands: Commands,
     last: &Arc<Edition>,
 ) -> Result<Transcript, NoMemory>
-    requires { All (IsWithin (count_of (sizes_of (arc_value last.now).task.model.sights))) commands }
+    requires { All (IsObservationWithin (count_of (sizes_of (arc_value last.now).task.model.sights))) commands }
     ensures logs { IfOk result (λ logs. logs_of logs ≡ transcript_of (problem (arc_value last.now).task.model) [] (shown_in (arc_value last.now)) commands) }
     ensures known { IfOk result (λ logs. All (HasEntriesOf (arc_value last.now).task.model) (logs_of logs)) }
 {

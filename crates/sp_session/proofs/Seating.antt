@@ -10,7 +10,7 @@ use Rattle.sp_theory.specs.Values as theory
 use Rattle.sp_theory.specs.Values.{Weights, greatest_member, value}
 use Rattle.sp_theory.specs.Beliefs.{next_weights}
 use Rattle.sp_theory.specs.Agreement.{NextAgree, MembersAgree}
-use Rattle.sp_theory.specs.Logs.{Entry, told, act, observe, unseen, Session, opening_session, seen_by, observed, MayEnter, after_entry, IsLog, session_after}
+use Rattle.sp_theory.specs.Logs.{Entry, told, act, observe, unseen, Session, opening_session, seen_by, weights_after_observation, MayEnter, after_entry, IsLog, session_after}
 use Rattle.sp_theory.specs.SessionLaws.{SessionsAgree}
 use Rattle.sp_theory.proofs.Agreement.{greatest_member_agrees, value_same}
 use Rattle.sp_theory.proofs.LogLemmas.{next_agrees, after_entry_agrees, edition_same}
@@ -79,10 +79,10 @@ module _ (s : SessionParts) (w : Func) (newest : ℕ) (acted : Option ℕ) (seat
   session_acted a is = seat.agree.acted ∙ is
 
   -- the observation, where the last action is known
-  observed_is : (a o : ℕ) → acted ≡ Some a → observed m (session_of s) o ≡ next_weights m (session_of s).weights a (point_of m.sight_sizes o)
+  observed_is : (a o : ℕ) → acted ≡ Some a → weights_after_observation m (session_of s) o ≡ next_weights m (session_of s).weights a (point_of m.sight_sizes o)
   observed_is a o is = ap (λ (x : Option ℕ). option_and_then (λ b. next_weights m (session_of s).weights b (point_of m.sight_sizes o)) x) (session_acted a is)
 
-  observed_agrees : (a o : ℕ) → acted ≡ Some a → NextAgree m (observed m (session_of s) o) (next_weights m (weights_of s.task.model w) a (point_of m.sight_sizes o))
+  observed_agrees : (a o : ℕ) → acted ≡ Some a → NextAgree m (weights_after_observation m (session_of s) o) (next_weights m (weights_of s.task.model w) a (point_of m.sight_sizes o))
   observed_agrees a o is = subst (λ (x : Option Weights). NextAgree m x (next_weights m (weights_of s.task.model w) a (point_of m.sight_sizes o))) (sym (observed_is a o is))
       (next_agrees m (session_of s).weights (weights_of s.task.model w) a (point_of m.sight_sizes o) seat.agree.weights)
 
@@ -90,8 +90,8 @@ module _ (s : SessionParts) (w : Func) (newest : ℕ) (acted : Option ℕ) (seat
   unfolding problem
   in_range o less = less
 
-  pub is_seen : (a o : ℕ) → acted ≡ Some a → (v : Func) → AreNext s.task.model w a o v → IsSome (observed m (session_of s) o)
-  is_seen a o is v next = (some_next m (observed m (session_of s) o) (weights_of s.task.model v) (session_of s).weights (next_trans m _ _ _ (observed_agrees a o is) next.agree)).0
+  pub is_seen : (a o : ℕ) → acted ≡ Some a → (v : Func) → AreNext s.task.model w a o v → IsSome (weights_after_observation m (session_of s) o)
+  is_seen a o is v next = (some_next m (weights_after_observation m (session_of s) o) (weights_of s.task.model v) (session_of s).weights (next_trans m _ _ _ (observed_agrees a o is) next.agree)).0
 
   pub seat_observed : (a o : ℕ) → acted ≡ Some a → o < count_of (sizes_of s.task.model.sights) → (v : Func) → AreNext s.task.model w a o v → v.shape ≡ shape_of s.task.model → IsSeat (with_observed s o) v newest None
   unfolding MayEnter after_entry
@@ -100,7 +100,7 @@ module _ (s : SessionParts) (w : Func) (newest : ℕ) (acted : Option ℕ) (seat
     shape = shape;
     agree = subst (λ (t : Session). SessionsAgree m t (record { weights = weights_of s.task.model v; newest = newest; acted = None; closed = false })) (sym (session_after-append m (opening_session m) s.entries (observe o)))
         (record {
-          weights = (some_next m (observed m (session_of s) o) (weights_of s.task.model v) (session_of s).weights (next_trans m _ _ _ (observed_agrees a o is) next.agree)).1;
+          weights = (some_next m (weights_after_observation m (session_of s) o) (weights_of s.task.model v) (session_of s).weights (next_trans m _ _ _ (observed_agrees a o is) next.agree)).1;
           newest = seat.agree.newest;
           acted = refl;
           closed = seat.agree.closed;
@@ -108,8 +108,8 @@ module _ (s : SessionParts) (w : Func) (newest : ℕ) (acted : Option ℕ) (seat
     known = tt;
   }
 
-  pub is_unseen : (a o : ℕ) → acted ≡ Some a → IsUnseen s.task.model w a o → IsNone (observed m (session_of s) o)
-  is_unseen a o is none = no_next m (observed m (session_of s) o) (subst (λ (x : Option Weights). NextAgree m (observed m (session_of s) o) x) none (observed_agrees a o is))
+  pub is_unseen : (a o : ℕ) → acted ≡ Some a → IsUnseen s.task.model w a o → IsNone (weights_after_observation m (session_of s) o)
+  is_unseen a o is none = no_next m (weights_after_observation m (session_of s) o) (subst (λ (x : Option Weights). NextAgree m (weights_after_observation m (session_of s) o) x) none (observed_agrees a o is))
 
   pub has_acted : (a : ℕ) → acted ≡ Some a → IsSome (session_of s).acted
   has_acted a is = ap (λ (x : Option ℕ). Rattle.std.specs.Prelude.is_some x) (session_acted a is)
@@ -190,8 +190,8 @@ module _ (s : SessionParts) (w : Func) (newest : ℕ) (acted : Option ℕ) (seat
 pub answer_seen : (s v : SessionParts) (e : EditionParts) (answer : Answer) → s ≡ v → IsAnswerOf s e answer → IsAnswerOf v e answer
 answer_seen s v e answer same is = subst (λ (p : SessionParts). IsAnswerOf p e answer) same is
 
-pub observed_seen : (s v after : SessionParts) (o : ℕ) → s ≡ v → IsSome (observed (problem s.task.model) (session_of s) o) → after ≡ with_observed s o → HasObserved v o after
+pub observed_seen : (s v after : SessionParts) (o : ℕ) → s ≡ v → IsSome (weights_after_observation (problem s.task.model) (session_of s) o) → after ≡ with_observed s o → HasObserved v o after
 observed_seen s v after o same seen is = subst (λ (p : SessionParts). HasObserved p o after) same (record { seen = seen; leaves = is })
 
-pub refused_seen : (s v after : SessionParts) (o : ℕ) → s ≡ v → IsSome (session_of s).acted → IsNone (observed (problem s.task.model) (session_of s) o) → after ≡ with_unseen s o → RefusesObservation v o errors.Unseen after
+pub refused_seen : (s v after : SessionParts) (o : ℕ) → s ≡ v → IsSome (session_of s).acted → IsNone (weights_after_observation (problem s.task.model) (session_of s) o) → after ≡ with_unseen s o → RefusesObservation v o errors.Unseen after
 refused_seen s v after o same acted none is = subst (λ (p : SessionParts). RefusesObservation p o errors.Unseen after) same (acted, none, is)

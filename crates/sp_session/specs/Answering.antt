@@ -1,7 +1,7 @@
 -- What the calls of a session answer.
 use Rattle.std.specs.Prelude.{◌≡◌, ℕ, ◌<◌, length, IsSome, IsNone}
 use Rattle.sp_theory.specs.Values as theory
-use Rattle.sp_theory.specs.Logs.{observed}
+use Rattle.sp_theory.specs.Logs.{weights_after_observation}
 use Rattle.sp_model.specs.Problem.{problem}
 use Rattle.sp_value.specs.Editions.{EditionParts, members_in}
 use Rattle.sp_session.specs.declared.answers.Answer.{Answer}
@@ -26,11 +26,11 @@ pub record IsAnswered (s : SessionParts) (e : EditionParts) (answer : Answer) (a
 -- ---- observations
 -- the observation was taken: an answer came before it, and there are next weights
 pub record HasObserved (s : SessionParts) (o : ℕ) (after : SessionParts) : Type 0 where
-  pub seen : IsSome (observed (problem s.task.model) (session_of s) o)
+  pub seen : IsSome (weights_after_observation (problem s.task.model) (session_of s) o)
   pub leaves : after ≡ with_observed s o
 
 -- it was not: no answer came before it, or there are no next weights; want of memory tells nothing
 abbrev pub RefusesObservation : SessionParts → ℕ → ObserveError → SessionParts → Type 0
 RefusesObservation s o NoAction after = IsNone (session_of s).acted × (after ≡ s)
-RefusesObservation s o Unseen after = IsSome (session_of s).acted × IsNone (observed (problem s.task.model) (session_of s) o) × (after ≡ with_unseen s o)
+RefusesObservation s o Unseen after = IsSome (session_of s).acted × IsNone (weights_after_observation (problem s.task.model) (session_of s) o) × (after ≡ with_unseen s o)
 RefusesObservation s o NoMemory after = after ≡ s

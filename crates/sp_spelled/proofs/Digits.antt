@@ -11,7 +11,7 @@ use Rattle.std.specs.Str.Parse.{AllDigits, digits_value_after}
 use Rattle.std.proofs.lemmas.Fmt.{decimal_is_IsNumeral, length-decimal-le}
 use Rattle.std.proofs.lemmas.List.{take_more}
 use Rattle.std.proofs.lemmas.Bool.Decides.{nat_tests}
-use Rattle.sp_lex.specs.Decimal.{Decimal, Spells, number_from, number_of_first, digit_at, ticks_of, ticks_of_decimal, limited, signed, magnitude_of, sign_of}
+use Rattle.sp_lex.specs.Decimal.{Decimal, Spells, number_from, number_of_first, digit_at, ticks_of, ticks_of_decimal, number_within_limit, signed_number, magnitude_of, sign_of}
 use Rattle.sp_lex.proofs.Spelling.{decimal_spelled}
 use Rattle.sp_show.specs.Decimals as show
 use Rattle.sp_show.specs.Decimals.{sign_text, nine_digits}
@@ -63,8 +63,8 @@ zeros_length : (k : ℕ) (ds : List ℕ) → length (replicate k 48 ++ ds) ≡ k
 zeros_length zero ds = omega arith
 zeros_length (suc k) ds = let e = zeros_length k ds in omega arith
 
-signed_is : (z : ℤ) → signed (int_lt z (pos 0)) (unsigned_abs z) ≡ z
-signed_is (pos n) = let no : nat_lt n 0 ≡ false = grind (arith, nat_tests) in ap (λ b. signed b n) no
+signed_is : (z : ℤ) → signed_number (int_lt z (pos 0)) (unsigned_abs z) ≡ z
+signed_is (pos n) = let no : nat_lt n 0 ≡ false = grind (arith, nat_tests) in ap (λ b. signed_number b n) no
 signed_is (negsuc n) = refl
 
 zeros_before : (k : ℕ) (ds : List ℕ) → number_from 0 (replicate k 48 ++ ds) ≡ number_from 0 ds
@@ -99,9 +99,9 @@ told z w f sum l lw l9 lf ew ef =
     let fine : list_all (λ b. b == 48) (drop 9 (nine_digits f)) ≡ true = ap (list_all (λ b. b == 48)) (let few : length (nine_digits f) ≤ 9 = omega arith in let none : drop 9 (nine_digits f) ≡ [] = drop_of_length-le (nine_digits f) few in none) in
     let limit : nat_lt 1000000000000000000 (unsigned_abs z) ≡ false = grind (arith, nat_tests) in
     ap ticks_of_decimal ((decimal_spelled (show.decimal_of z) d).1 spelled)
-    ∙ ap (λ b. if b then limited (int_lt z (pos 0)) (magnitude_of d) else Err TooFine) fine
-    ∙ ap (limited (int_lt z (pos 0))) magnitude
-    ∙ ap (λ b. if b then Err TooLarge else Ok (signed (int_lt z (pos 0)) (unsigned_abs z))) limit
+    ∙ ap (λ b. if b then number_within_limit (int_lt z (pos 0)) (magnitude_of d) else Err TooFine) fine
+    ∙ ap (number_within_limit (int_lt z (pos 0))) magnitude
+    ∙ ap (λ b. if b then Err TooLarge else Ok (signed_number (int_lt z (pos 0)) (unsigned_abs z))) limit
     ∙ ap Ok (signed_is z)
 
 pub ticks_are : (z : ℤ) → unsigned_abs z ≤ 10 ^ 18 → ticks_of (show.decimal_of z) ≡ Ok z

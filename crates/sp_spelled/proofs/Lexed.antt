@@ -14,7 +14,7 @@ use Rattle.sp_lex.specs.Tokens.{piece_of, piece_by, word_piece, token_piece, beh
 use Rattle.sp_lex.proofs.Steps.{at_piece}
 use Rattle.sp_syntax.specs.declared.class.TokenClass.TheVariants as class
 use Rattle.sp_syntax.specs.Classes.{class_of as token_class, mark_class, with_class, without_last, word_class, primed_class, classes}
-use Rattle.sp_spelled.specs.Signs.{Sign, opens, closes, left_square, right_square, plus, star, word, primed, Gap, tight, space, line, Spelled, sign_bytes, gap_bytes, printed, IsWordText, IsSign, IsNoWord, IsApart, IsSpaced, IsSpelled, AreSpelled, Lexes}
+use Rattle.sp_spelled.specs.Signs.{Sign, opens, closes, left_square, right_square, plus, star, word, primed, Gap, tight, space, line, Spelled, sign_bytes, gap_bytes, text_of_signs, IsWordText, IsSign, IsNoWord, IsApart, IsSpaced, IsSpelled, AreSpelled, Lexes}
 
 -- ---- places
 abbrev sign_kind : Sign → TokenKind
@@ -117,24 +117,24 @@ no_word (word w) rest h = absurd h
 no_word (primed w) rest h = absurd h
 no_word _ rest h = (refl, refl)
 
-ends : (s : Sign) (g : Gap) (ss : List Spelled) → IsApart s g ss → Ends s (gap_bytes g ++ printed ss)
+ends : (s : Sign) (g : Gap) (ss : List Spelled) → IsApart s g ss → Ends s (gap_bytes g ++ text_of_signs ss)
 ends (word w) tight [] h = absurd h
-ends (word w) tight (t ∷ ss) h = no_word t.sign (gap_bytes t.gap ++ printed ss) h
+ends (word w) tight (t ∷ ss) h = no_word t.sign (gap_bytes t.gap ++ text_of_signs ss) h
 ends (word w) space ss h = (refl, refl)
 ends (word w) line ss h = (refl, refl)
 ends _ g ss h = tt
 
-lexed_at : (at : ℕ) (ss : List Spelled) → IsSpaced ss → tokens_from at 0 (printed ss) ≡ Ok (placed at ss)
+lexed_at : (at : ℕ) (ss : List Spelled) → IsSpaced ss → tokens_from at 0 (text_of_signs ss) ≡ Ok (placed at ss)
 unfolding tokens_from
 lexed_at at [] h = refl
 lexed_at at (s ∷ ss) h =
     let bytes : List ℕ = sign_bytes s.sign in
-    let rest : List ℕ = gap_bytes s.gap ++ printed ss in
-    let long = length-append (sign_bytes s.sign) (gap_bytes s.gap ++ printed ss) in
-    at_piece at (sign_bytes s.sign ++ (gap_bytes s.gap ++ printed ss)) (piece_for s.sign) (sign_front s.sign (gap_bytes s.gap ++ printed ss) h.0 (ends s.sign s.gap ss h.1)) (sign_some s.sign h.0) (omega arith)
+    let rest : List ℕ = gap_bytes s.gap ++ text_of_signs ss in
+    let long = length-append (sign_bytes s.sign) (gap_bytes s.gap ++ text_of_signs ss) in
+    at_piece at (sign_bytes s.sign ++ (gap_bytes s.gap ++ text_of_signs ss)) (piece_for s.sign) (sign_front s.sign (gap_bytes s.gap ++ text_of_signs ss) h.0 (ends s.sign s.gap ss h.1)) (sign_some s.sign h.0) (omega arith)
     ∙ ap (λ z. behind (token_at at s.sign ∷ []) z)
-    (ap (λ z. tokens_from (at + length (sign_bytes s.sign)) 0 z) (drop-append_seam (sign_bytes s.sign) (gap_bytes s.gap ++ printed ss))
-    ∙ over_gap (at + length (sign_bytes s.sign)) s.gap (printed ss) ∙ lexed_at (at + length (sign_bytes s.sign) + length (gap_bytes s.gap)) ss h.2)
+    (ap (λ z. tokens_from (at + length (sign_bytes s.sign)) 0 z) (drop-append_seam (sign_bytes s.sign) (gap_bytes s.gap ++ text_of_signs ss))
+    ∙ over_gap (at + length (sign_bytes s.sign)) s.gap (text_of_signs ss) ∙ lexed_at (at + length (sign_bytes s.sign) + length (gap_bytes s.gap)) ss h.2)
 
 -- ---- texts
 text_at : (source front w more : List ℕ) (at n : ℕ) → length front ≡ at → n ≡ at + length w → source ≡ front ++ (w ++ more) → slice_range source at n ≡ w
@@ -164,15 +164,15 @@ spelled_here source front more at (primed w) l e =
       says = text_at source front w (39 ∷ more) at (at + length (w ++ 39 ∷ []) - 1) l short (e ∙ ap (λ v. front ++ v) (append_assoc w (39 ∷ []) more));
     }
 
-spelled_at : (source front : List ℕ) (at : ℕ) (ss : List Spelled) → length front ≡ at → source ≡ front ++ printed ss → AreSpelled source (classes source (placed at ss)) ss
+spelled_at : (source front : List ℕ) (at : ℕ) (ss : List Spelled) → length front ≡ at → source ≡ front ++ text_of_signs ss → AreSpelled source (classes source (placed at ss)) ss
 spelled_at source front at [] l e = tt
 spelled_at source front at (s ∷ ss) l e =
     let signs = length-append front (sign_bytes s.sign) in
     let gaps = length-append (front ++ sign_bytes s.sign) (gap_bytes s.gap) in (
-      spelled_here source front (gap_bytes s.gap ++ printed ss) at s.sign l e,
+      spelled_here source front (gap_bytes s.gap ++ text_of_signs ss) at s.sign l e,
       spelled_at source ((front ++ sign_bytes s.sign) ++ gap_bytes s.gap) (at + length (sign_bytes s.sign) + length (gap_bytes s.gap)) ss (omega arith)
-          (e ∙ sym (append_assoc front (sign_bytes s.sign) (gap_bytes s.gap ++ printed ss)) ∙ sym (append_assoc (front ++ sign_bytes s.sign) (gap_bytes s.gap) (printed ss))),
+          (e ∙ sym (append_assoc front (sign_bytes s.sign) (gap_bytes s.gap ++ text_of_signs ss)) ∙ sym (append_assoc (front ++ sign_bytes s.sign) (gap_bytes s.gap) (text_of_signs ss))),
     )
 
-pub lexed : (ss : List Spelled) → IsSpaced ss → Lexes (printed ss) ss
-lexed ss h = record { tokens = placed 0 ss; lexed = lexed_at 0 ss h; spelled = spelled_at (printed ss) [] 0 ss refl refl }
+pub lexed : (ss : List Spelled) → IsSpaced ss → Lexes (text_of_signs ss) ss
+lexed ss h = record { tokens = placed 0 ss; lexed = lexed_at 0 ss h; spelled = spelled_at (text_of_signs ss) [] 0 ss refl refl }

@@ -7,7 +7,7 @@ use Rattle.sp_syntax.specs.declared.text.Text.{Text}
 use Rattle.sp_syntax.specs.Classes.{classes}
 use Rattle.sp_syntax.specs.Grammar as grammar
 use Rattle.sp_syntax.specs.Grammar.{IsSection, AreDeclarations, IsText, AreAll}
-use Rattle.sp_spelled.specs.Signs.{Spelled, printed}
+use Rattle.sp_spelled.specs.Signs.{Spelled, text_of_signs}
 use Rattle.sp_spelled.specs.Written.{Written, HasTree}
 use Rattle.sp_spelled.proofs.Lexed.{lexed}
 use Rattle.sp_spelled.proofs.Written.{spaced_both, balanced_both, split, room_is}
@@ -32,14 +32,14 @@ written_text us vs ws depth P Q R S first second third p = record {
       );
 }
 
-pub written_is_read : (S : List ℕ → Text → Type 0) (depth : ℕ) (ss : List Spelled) → depth ≤ 128 → Written IsText S depth ss → HasTree (printed ss) S
+pub written_is_read : (S : List ℕ → Text → Type 0) (depth : ℕ) (ss : List Spelled) → depth ≤ 128 → Written IsText S depth ss → HasTree (text_of_signs ss) S
 written_is_read S depth ss l w =
     let lex = lexed ss w.spaced in
-    let t = w.reads (printed ss) (classes (printed ss) lex.tokens) lex.spelled in
+    let t = w.reads (text_of_signs ss) (classes (text_of_signs ss) lex.tokens) lex.spelled in
     record {
       tree = t.0;
       tokens = lex.tokens;
       lexed = lex.lexed;
-      answers = (t.1, (128, room_is (printed ss) 128 (classes (printed ss) lex.tokens) ss lex.spelled ∙ w.balanced 128 l));
+      answers = (t.1, (128, room_is (text_of_signs ss) 128 (classes (text_of_signs ss) lex.tokens) ss lex.spelled ∙ w.balanced 128 l));
       holds = t.2;
     }

@@ -11,7 +11,7 @@ use Rattle.sp_syntax.specs.declared.text.Branch.{Branch, roll-Branch}
 use Rattle.sp_syntax.specs.Classes.{text_of, word_class, primed_class, primed_by}
 use Rattle.sp_syntax.specs.Grammar.{IsTree, IsBranch, AreBranches, AreTrees, is_number, number, reference, node, primed_node, sum, product, branch, no_branches, more_branches, no_trees, more_trees}
 use Rattle.sp_syntax.specs.Refusal.{leave, room_then}
-use Rattle.sp_spelled.specs.Signs.{Sign, opens, closes, left_square, right_square, plus, star, word, primed, Gap, tight, space, Spelled, IsWordText, IsSpaced, sign_class, shortened, IsSpelled, AreSpelled}
+use Rattle.sp_spelled.specs.Signs.{Sign, opens, closes, left_square, right_square, plus, star, word, primed, Gap, tight, space, Spelled, IsWordText, IsSpaced, sign_class, span_without_last, IsSpelled, AreSpelled}
 use Rattle.sp_spelled.specs.Shapes.{sign, leaf, group, primed_group, sum_group, product_group}
 use Rattle.sp_spelled.specs.Written.{sign_room, IsBalanced, Written}
 use Rattle.sp_spelled.proofs.Written.{spaced_both, room_both, balanced_nothing, no_tokens, enclosed, written_enclosed, written_both}
@@ -105,7 +105,7 @@ module _ (w : List ℕ) (us : List Spelled) (g : Gap) (depth : ℕ) (Q : List �
       make source left head right (b ∷ bs) ts l a r is q =
           (tree.Node left.span head.span (b ∷ bs) right.span, node left head right b bs ts l.class (a.class ∙ ap class.Word name) is r.class refl refl, p source left.span head.span (b ∷ bs) right.span a.says q)
 
-  pub written_primed : ((source : List ℕ) (left at : Span) (bs : List Branch) (right : Span) → text_of source (shortened at) ≡ w → Q source bs → P source (tree.PrimedNode left at bs right)) → Written IsTree P (suc depth) (primed_group w us g)
+  pub written_primed : ((source : List ℕ) (left at : Span) (bs : List Branch) (right : Span) → text_of source (span_without_last at) ≡ w → Q source bs → P source (tree.PrimedNode left at bs right)) → Written IsTree P (suc depth) (primed_group w us g)
   written_primed p = written_enclosed AreBranches IsTree Q P (sign opens tight) (sign (primed w) space) us (sign closes g) depth (suc depth) part (spaced_primed w us g h part.spaced) (balanced_primed depth w us g name part.balanced)
       (λ source left head right bs ts l a r is q. make source left head right bs ts l a r is q)
     where

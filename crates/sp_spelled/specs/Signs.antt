@@ -52,9 +52,9 @@ gap_bytes space = 32 ∷ []
 gap_bytes line = 10 ∷ []
 
 -- the text
-abbrev pub printed : List Spelled → List ℕ
-printed [] = []
-printed (s ∷ ss) = sign_bytes s.sign ++ (gap_bytes s.gap ++ printed ss)
+abbrev pub text_of_signs : List Spelled → List ℕ
+text_of_signs [] = []
+text_of_signs (s ∷ ss) = sign_bytes s.sign ++ (gap_bytes s.gap ++ text_of_signs ss)
 
 -- some word bytes
 pub record IsWordText (w : List ℕ) : Type 0 where
@@ -98,19 +98,19 @@ sign_class (word w) = class.Word (word_class w)
 sign_class (primed w) = primed_class w
 
 -- a span without its last byte
-abbrev pub shortened : Span → Span
-shortened span = record { start = span.start; end = span.end - 1 }
+abbrev pub span_without_last : Span → Span
+span_without_last span = record { start = span.start; end = span.end - 1 }
 
 -- the span's word is that of the sign
-abbrev pub Says : List ℕ → Span → Sign → Type 0
-Says source span (word w) = text_of source span ≡ w
-Says source span (primed w) = text_of source (shortened span) ≡ w
-Says source span _ = Unit {0}
+abbrev pub SpanSays : List ℕ → Span → Sign → Type 0
+SpanSays source span (word w) = text_of source span ≡ w
+SpanSays source span (primed w) = text_of source (span_without_last span) ≡ w
+SpanSays source span _ = Unit {0}
 
 -- the token is that sign in the source
 pub record IsSpelled (source : List ℕ) (t : Classed) (s : Sign) : Type 0 where
   pub class : t.class ≡ sign_class s
-  pub says : Says source t.span s
+  pub says : SpanSays source t.span s
 
 -- the tokens are those signs
 abbrev pub AreSpelled : List ℕ → List Classed → List Spelled → Type 0

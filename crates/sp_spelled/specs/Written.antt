@@ -7,7 +7,7 @@ use Rattle.sp_syntax.specs.declared.class.WordClass.TheVariants as the_word
 use Rattle.sp_syntax.specs.declared.text.Text.{Text}
 use Rattle.sp_syntax.specs.Classes.{word_class, classes}
 use Rattle.sp_syntax.specs.declared.class.Classed.{Classed}
-use Rattle.sp_syntax.specs.Refusal.{leave, room_then, Answers}
+use Rattle.sp_syntax.specs.Refusal.{leave, room_then, AnswersTokens}
 use Rattle.sp_spelled.specs.Signs.{Spelled, IsSpaced, AreSpelled, IsWordText, sign_class}
 
 -- how many brackets may still be opened behind the signs
@@ -40,5 +40,5 @@ pub record HasTree (source : List ℕ) (IsMeant : List ℕ → Text → Type 0) 
   pub tree : Text
   pub tokens : List Token
   pub lexed : tokens_of source ≡ Ok tokens
-  pub answers : Answers (length source) (classes source tokens) (Ok tree)
+  pub answers : AnswersTokens (length source) (classes source tokens) (Ok tree)
   pub holds : IsMeant source tree

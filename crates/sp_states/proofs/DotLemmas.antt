@@ -16,7 +16,7 @@ use Rattle.sp_dd.proofs.FloorLemmas.{add-*ℤ}
 use Rattle.sp_dd.proofs.FuncLemmas.{value_of-function_of, scope_some}
 use Rattle.sp_dd.proofs.PointLemmas.{place-point_at, point_at_is}
 use Rattle.sp_states.specs.declared.support.Entry.{Entry}
-use Rattle.sp_states.specs.States.{widths_of, state_number, tabulated, weighted, weight_in, entry_dot, IsTable, AreEntries}
+use Rattle.sp_states.specs.States.{widths_of, state_number, function_of_values, function_of_weights, weight_in, entry_dot, IsValueList, AreEntries}
 use Rattle.sp_states.proofs.WidthLemmas.{states_some, state_point}
 
 sum_to_same : (n : ℕ) (g h : ℕ → ℤ) → ((v : ℕ) → v < n → g v ≡ h v) → sum_to n g ≡ sum_to n h
@@ -178,10 +178,10 @@ state_within s k c = state_point s.variables s.sizes (state_at s k) c.each (poin
 pub number_of : (s : Shape) (k : ℕ) → IsScope s → k < state_count s → state_number s (state_at s k) ≡ k
 number_of s k c l = place-point_at (widths_of s) k (states_some s c) ∙ mod-eq_of_lt l
 
-weighted_at : (s : Shape) (es : List Entry) (k : ℕ) → IsScope s → k < state_count s → value_of (weighted s es) (state_at s k) ≡ pos (weight_in es k)
+weighted_at : (s : Shape) (es : List Entry) (k : ℕ) → IsScope s → k < state_count s → value_of (function_of_weights s es) (state_at s k) ≡ pos (weight_in es k)
 weighted_at s es k c l = value_of-function_of s _ (state_at s k) (scope_some s c) (state_within s k c) ∙ ap (λ i. pos (weight_in es i)) (number_of s k c l)
 
-tabulated_at : (s : Shape) (vs : List ℤ) (k : ℕ) → IsScope s → k < state_count s → value_of (tabulated s vs) (state_at s k) ≡ get_or vs k (pos 0)
+tabulated_at : (s : Shape) (vs : List ℤ) (k : ℕ) → IsScope s → k < state_count s → value_of (function_of_values s vs) (state_at s k) ≡ get_or vs k (pos 0)
 tabulated_at s vs k c l = value_of-function_of s _ (state_at s k) (scope_some s c) (state_within s k c) ∙ ap (λ i. get_or vs i (pos 0)) (number_of s k c l)
 
 -- what is known of a list and a table on one scope
@@ -189,10 +189,10 @@ pub record IsPaired (w f : Func) (es : List Entry) (vs : List ℤ) : Type 0 wher
   pub small : AreSmall es vs
   pub sum : entry_dot es (λ n. get_or vs n (pos 0)) ≡ state_dot w f
 
-paired_here : (s : Shape) (es : List Entry) (vs : List ℤ) → AreEntries s es → IsTable s vs → state_total (weighted s es) ≤ℤ pos (2 ^ 62) → Everywhere (tabulated s vs) (λ v. unsigned_abs v ≤ 2 ^ 62) → IsPaired (weighted s es) (tabulated s vs) es vs
+paired_here : (s : Shape) (es : List Entry) (vs : List ℤ) → AreEntries s es → IsValueList s vs → state_total (function_of_weights s es) ≤ℤ pos (2 ^ 62) → Everywhere (function_of_values s vs) (λ v. unsigned_abs v ≤ 2 ^ 62) → IsPaired (function_of_weights s es) (function_of_values s vs) es vs
 paired_here s es vs a t total small =
     let n : ℕ = state_count s in
-    let all : sum_to n (λ k. value_of (weighted s es) (state_at s k)) ≡ pos (mass es) = sum_to_same n _ (λ k. pos (weight_in es k)) (λ k l. weighted_at s es k a.scope l) ∙ mass_sum n es a.states in
+    let all : sum_to n (λ k. value_of (function_of_weights s es) (state_at s k)) ≡ pos (mass es) = sum_to_same n _ (λ k. pos (weight_in es k)) (λ k l. weighted_at s es k a.scope l) ∙ mass_sum n es a.states in
     record {
       small = record {
         states = (let P : ℕ → Type 0 = λ m. All (λ (e : Entry). e.state < m) es in subst P (sym t.count) a.states);
@@ -204,13 +204,13 @@ paired_here s es vs a t total small =
           ∙ entries_sum n es (λ k. get_or vs k (pos 0)) a.states);
     }
 
-paired_on : (s t : Shape) (es : List Entry) (vs : List ℤ) → s ≡ t → AreEntries s es → IsTable t vs → state_total (weighted s es) ≤ℤ pos (2 ^ 62) → Everywhere (tabulated t vs) (λ v. unsigned_abs v ≤ 2 ^ 62) → IsPaired (weighted s es) (tabulated t vs) es vs
+paired_on : (s t : Shape) (es : List Entry) (vs : List ℤ) → s ≡ t → AreEntries s es → IsValueList t vs → state_total (function_of_weights s es) ≤ℤ pos (2 ^ 62) → Everywhere (function_of_values t vs) (λ v. unsigned_abs v ≤ 2 ^ 62) → IsPaired (function_of_weights s es) (function_of_values t vs) es vs
 paired_on s t es vs e =
-    let P : Shape → Type 0 = λ u. AreEntries s es → IsTable u vs → state_total (weighted s es) ≤ℤ pos (2 ^ 62) → Everywhere (tabulated u vs) (λ v. unsigned_abs v ≤ 2 ^ 62) → IsPaired (weighted s es) (tabulated u vs) es vs in
+    let P : Shape → Type 0 = λ u. AreEntries s es → IsValueList u vs → state_total (function_of_weights s es) ≤ℤ pos (2 ^ 62) → Everywhere (function_of_values u vs) (λ v. unsigned_abs v ≤ 2 ^ 62) → IsPaired (function_of_weights s es) (function_of_values u vs) es vs in
     subst P e (paired_here s es vs)
 
-pub paired : (w f : Func) (s t : Shape) (es : List Entry) (vs : List ℤ) → weighted s es ≡ w → tabulated t vs ≡ f → w.shape ≡ f.shape → AreEntries s es → IsTable t vs → state_total w ≤ℤ pos (2 ^ 62) → Everywhere f (λ v. unsigned_abs v ≤ 2 ^ 62) → IsPaired w f es vs
+pub paired : (w f : Func) (s t : Shape) (es : List Entry) (vs : List ℤ) → function_of_weights s es ≡ w → function_of_values t vs ≡ f → w.shape ≡ f.shape → AreEntries s es → IsValueList t vs → state_total w ≤ℤ pos (2 ^ 62) → Everywhere f (λ v. unsigned_abs v ≤ 2 ^ 62) → IsPaired w f es vs
 paired w f s t es vs p q e a b total small =
     let shapes : s ≡ t = ap (λ (g : Func). g.shape) p ∙ e ∙ sym (ap (λ (g : Func). g.shape) q) in
-    let h : IsPaired (weighted s es) (tabulated t vs) es vs = paired_on s t es vs shapes a b (subst (λ g. state_total g ≤ℤ pos (2 ^ 62)) (sym p) total) (subst (λ g. Everywhere g (λ v. unsigned_abs v ≤ 2 ^ 62)) (sym q) small) in
-    subst (λ g. IsPaired g f es vs) p (subst (λ g. IsPaired (weighted s es) g es vs) q h)
+    let h : IsPaired (function_of_weights s es) (function_of_values t vs) es vs = paired_on s t es vs shapes a b (subst (λ g. state_total g ≤ℤ pos (2 ^ 62)) (sym p) total) (subst (λ g. Everywhere g (λ v. unsigned_abs v ≤ 2 ^ 62)) (sym q) small) in
+    subst (λ g. IsPaired g f es vs) p (subst (λ g. IsPaired (function_of_weights s es) g es vs) q h)

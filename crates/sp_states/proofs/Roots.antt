@@ -22,7 +22,7 @@ use Rattle.sp_dd.proofs.IndependenceLemmas.{length-point, point-below, agree_sam
 use Rattle.sp_dd.proofs.Listed.{IsMade}
 use Rattle.sp_dd.proofs.Diagramming.{func_made}
 use Rattle.sp_states.specs.declared.support.Entry.{Entry}
-use Rattle.sp_states.specs.States.{widths_of, state_number, state_values, support_count, values_over, tabulated, weighted, entries_from, IsTable, AreEntries}
+use Rattle.sp_states.specs.States.{widths_of, state_number, state_values, support_count, values_over, function_of_values, function_of_weights, entries_from, IsValueList, AreEntries}
 use Rattle.sp_states.specs.Walks.{IsPartFrom, IsWeight, value_of_part}
 use Rattle.sp_states.proofs.WidthLemmas.{as_long, widths_sizes, states_some, width_state}
 use Rattle.sp_states.proofs.Listing.{over-get, length-over}
@@ -123,22 +123,22 @@ root_is s ns a count f e c n r k =
 
 -- ---- the function of a table
 
-tabulated_here : (f : Func) → IsScope f.shape → IsFunc f → IsOnUnprimed f → tabulated f.shape (state_values f) ≡ f
+tabulated_here : (f : Func) → IsScope f.shape → IsFunc f → IsOnUnprimed f → function_of_values f.shape (state_values f) ≡ f
 tabulated_here f c d u =
-    same_everywhere (tabulated f.shape (state_values f)) f c (IsFunc-function_of f.shape _ c) d refl (λ x p.
+    same_everywhere (function_of_values f.shape (state_values f)) f c (IsFunc-function_of f.shape _ c) d refl (λ x p.
     value_of-function_of f.shape _ x (scope_some f.shape c) p ∙ values_at f (state_number f.shape x) (number_below f.shape x c) ∙ state_same f x c u p)
 
-pub tabulated_is : (s : Shape) (vs : List ℤ) (f : Func) → s ≡ f.shape → vs ≡ state_values f → IsScope f.shape → IsFunc f → IsOnUnprimed f → tabulated s vs ≡ f
-tabulated_is s vs f e v c d u = ap₂ tabulated e v ∙ tabulated_here f c d u
+pub tabulated_is : (s : Shape) (vs : List ℤ) (f : Func) → s ≡ f.shape → vs ≡ state_values f → IsScope f.shape → IsFunc f → IsOnUnprimed f → function_of_values s vs ≡ f
+tabulated_is s vs f e v c d u = ap₂ function_of_values e v ∙ tabulated_here f c d u
 
-pub table_is : (s : Shape) (vs : List ℤ) (f : Func) → s ≡ f.shape → vs ≡ state_values f → IsScope f.shape → IsTable s vs
+pub table_is : (s : Shape) (vs : List ℤ) (f : Func) → s ≡ f.shape → vs ≡ state_values f → IsScope f.shape → IsValueList s vs
 table_is s vs f e v c = record { scope = subst IsScope (sym e) c; count = ap length v ∙ length-state_values f ∙ ap state_count (sym e) }
 
 -- ---- the function of a list
 
-weighted_here : (f : Func) → IsScope f.shape → IsFunc f → IsOnUnprimed f → Everywhere f (λ v. pos 0 ≤ℤ v) → weighted f.shape (entries_from 0 (state_values f)) ≡ f
+weighted_here : (f : Func) → IsScope f.shape → IsFunc f → IsOnUnprimed f → Everywhere f (λ v. pos 0 ≤ℤ v) → function_of_weights f.shape (entries_from 0 (state_values f)) ≡ f
 weighted_here f c d u some =
-    same_everywhere (weighted f.shape (entries_from 0 (state_values f))) f c (IsFunc-function_of f.shape _ c) d refl (λ x p.
+    same_everywhere (function_of_weights f.shape (entries_from 0 (state_values f))) f c (IsFunc-function_of f.shape _ c) d refl (λ x p.
     (let k : ℕ = state_number f.shape x in
     let there : k < state_count f.shape = number_below f.shape x c in
     value_of-function_of f.shape _ x (scope_some f.shape c) p
@@ -146,8 +146,8 @@ weighted_here f c d u some =
     ∙ ap (λ z. pos (unsigned_abs z)) (values_at f k there ∙ state_same f x c u p)
     ∙ whole_weight (value_of f x) (some x p)))
 
-pub weighted_is : (s : Shape) (es : List Entry) (f : Func) → s ≡ f.shape → es ≡ entries_from 0 (state_values f) → IsScope f.shape → IsFunc f → IsOnUnprimed f → Everywhere f (λ v. pos 0 ≤ℤ v) → weighted s es ≡ f
-weighted_is s es f e v c d u some = ap₂ weighted e v ∙ weighted_here f c d u some
+pub weighted_is : (s : Shape) (es : List Entry) (f : Func) → s ≡ f.shape → es ≡ entries_from 0 (state_values f) → IsScope f.shape → IsFunc f → IsOnUnprimed f → Everywhere f (λ v. pos 0 ≤ℤ v) → function_of_weights s es ≡ f
+weighted_is s es f e v c d u some = ap₂ function_of_weights e v ∙ weighted_here f c d u some
 
 pub entries_are : (s : Shape) (es : List Entry) (f : Func) → s ≡ f.shape → es ≡ entries_from 0 (state_values f) → IsScope f.shape → AreEntries s es
 entries_are s es f e v c =

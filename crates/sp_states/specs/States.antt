@@ -16,11 +16,11 @@ state_number s x = place (widths_of s) x
 
 -- ---- tables
 -- the function with these values, by the numbers of states
-abbrev pub tabulated : Shape → List ℤ → Func
-tabulated s vs = function_of s (λ x. slice_index_or vs (state_number s x) (pos 0))
+abbrev pub function_of_values : Shape → List ℤ → Func
+function_of_values s vs = function_of s (λ x. slice_index_or vs (state_number s x) (pos 0))
 
 -- a value for each state
-pub record IsTable (s : Shape) (vs : List ℤ) : Type 0 where
+pub record IsValueList (s : Shape) (vs : List ℤ) : Type 0 where
   pub scope : IsScope s
   pub count : length vs ≡ state_count s
 
@@ -31,8 +31,8 @@ weight_in [] k = 0
 weight_in (e ∷ es) k = cond (e.state == k) e.weight 0 + weight_in es k
 
 -- the function with these weights
-abbrev pub weighted : Shape → List Entry → Func
-weighted s es = function_of s (λ x. pos (weight_in es (state_number s x)))
+abbrev pub function_of_weights : Shape → List Entry → Func
+function_of_weights s es = function_of s (λ x. pos (weight_in es (state_number s x)))
 
 -- entries of states
 pub record AreEntries (s : Shape) (es : List Entry) : Type 0 where

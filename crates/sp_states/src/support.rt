@@ -32,9 +32,9 @@ impl Model for SupportList {
 
     ghost Value = { Func };
 
-    ghost use Rattle.sp_states.specs.States.{AreEntries, weighted};
+    ghost use Rattle.sp_states.specs.States.{AreEntries, function_of_weights};
 
-    ghost view = { λ l. weighted l.scope l.entries.items };
+    ghost view = { λ l. function_of_weights l.scope l.entries.items };
 
     ghost invariant = { λ l. AreEntries l.scope l.entries.items };
 }

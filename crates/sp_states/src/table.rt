@@ -24,13 +24,13 @@ pub struct ValueTable {
 
 impl Model for ValueTable {
     ghost use Rattle.sp_dd.specs.Func.{Func};
-    ghost use Rattle.sp_states.specs.States.{IsTable, tabulated};
+    ghost use Rattle.sp_states.specs.States.{IsValueList, function_of_values};
 
     ghost Value = { Func };
 
-    ghost view = { λ t. tabulated t.scope t.values.items };
+    ghost view = { λ t. function_of_values t.scope t.values.items };
 
-    ghost invariant = { λ t. IsTable t.scope t.values.items };
+    ghost invariant = { λ t. IsValueList t.scope t.values.items };
 }
 
 impl ValueTable {

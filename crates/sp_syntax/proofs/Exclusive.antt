@@ -3,7 +3,7 @@ use Rattle.std.proofs.Common.{◌≡◌, ℕ, List, [], ◌∷◌, ◌++◌, Opt
 use Rattle.sp_syntax.specs.declared.class.Classed.{Classed}
 use Rattle.sp_syntax.specs.Fault.{Fault}
 use Rattle.sp_syntax.specs.Grammar.{InGrammar}
-use Rattle.sp_syntax.specs.Refusal.{leave, room, room_then, IsShallow, StopsAt, Refuses}
+use Rattle.sp_syntax.specs.Refusal.{leave, room, room_then, IsShallow, StopsAt, RefusesTokens}
 
 no_room : (us vs : List Classed) (l : ℕ) → room l us ≡ None → room l (us ++ vs) ≡ None
 no_room [] vs l e = cc
@@ -21,5 +21,5 @@ stopped end front (t ∷ back) f (inr h) is (n, e) =
     let same = ap (room 128) (append_assoc front (t ∷ []) back) in
     let clash : None ≡ Some n = sym none ∙ same ∙ e in cc
 
-pub refused_is_none : (end : ℕ) (ts : List Classed) (f : Fault) → Refuses end ts f → InGrammar ts → IsShallow ts → ⊥
+pub refused_is_none : (end : ℕ) (ts : List Classed) (f : Fault) → RefusesTokens end ts f → InGrammar ts → IsShallow ts → ⊥
 refused_is_none end ts f r is shallow = stopped end r.front r.back f r.stops (subst InGrammar r.whole is) (subst IsShallow r.whole shallow)

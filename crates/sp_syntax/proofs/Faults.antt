@@ -9,7 +9,7 @@ use Rattle.sp_syntax.specs.declared.error.SyntaxKind.{SyntaxKind}
 use Rattle.sp_syntax.specs.declared.error.SyntaxKind.TheVariants as kind
 use Rattle.sp_syntax.specs.Fault.{Fault}
 use Rattle.sp_syntax.specs.Grammar.{InGrammar, IsKeyword}
-use Rattle.sp_syntax.specs.Refusal.{leave, room, room_then, is_unsupported_mark, EndsInSquare, IsUnsupported, end_kind, Refuses}
+use Rattle.sp_syntax.specs.Refusal.{leave, room, room_then, is_unsupported_mark, EndsInSquare, IsUnsupported, end_kind, RefusesTokens}
 use Rattle.sp_syntax.proofs.Machine.{Sym, AfterSquare, start, step, run, go_on, kind_of, fault}
 use Rattle.sp_syntax.proofs.Prefix.{after, after_step, viable, not_viable, whole, not_whole}
 use Rattle.sp_syntax.proofs.Squares.{on_top, waits_ends, ends_waits}
@@ -70,7 +70,7 @@ push_some : (front ts : List Classed) (t : Classed) → (front ++ (t ∷ [])) ++
 push_some [] ts t e = cc
 push_some (u ∷ us) ts t e = cc
 
-pub stops : (ts front : List Classed) (end l : ℕ) (new : List Sym) (f : Fault) → (front ++ ts ≡ [] → ⊥) → after start front ≡ Some new → room 128 front ≡ Some l → run end l new ts ≡ Err f → Refuses end (front ++ ts) f
+pub stops : (ts front : List Classed) (end l : ℕ) (new : List Sym) (f : Fault) → (front ++ ts ≡ [] → ⊥) → after start front ≡ Some new → room 128 front ≡ Some l → run end l new ts ≡ Err f → RefusesTokens end (front ++ ts) f
 stops [] front end l [] f some e r h = cc
 stops [] front end l (s ∷ new) f some e r h =
     let g : record { at = end; kind = kind.Unclosed } ≡ f = cc in
@@ -85,8 +85,8 @@ stops [] front end l (s ∷ new) f some e r h =
 stops (t ∷ ts) front end l new f some e r h = by (step new t.class) (leave l t.class) refl refl h (λ n m e r h. stops ts (front ++ (t ∷ [])) end m n f (push_some front ts t) e r h)
   where
     by : (o : Option (List Sym)) (p : Option ℕ) → step new t.class ≡ o → leave l t.class ≡ p → go_on (λ l n. run end l n ts) new t o p ≡ Err f
-        → ((n : List Sym) (m : ℕ) → after start (front ++ (t ∷ [])) ≡ Some n → room 128 (front ++ (t ∷ [])) ≡ Some m → run end m n ts ≡ Err f → Refuses end ((front ++ (t ∷ [])) ++ ts) f)
-        → Refuses end (front ++ (t ∷ ts)) f
+        → ((n : List Sym) (m : ℕ) → after start (front ++ (t ∷ [])) ≡ Some n → room 128 (front ++ (t ∷ [])) ≡ Some m → run end m n ts ≡ Err f → RefusesTokens end ((front ++ (t ∷ [])) ++ ts) f)
+        → RefusesTokens end (front ++ (t ∷ ts)) f
     by None p so room_is h again =
         let g : fault t (kind_of new t.class) ≡ f = cc in
         record {
@@ -108,15 +108,15 @@ stops (t ∷ ts) front end l new f some e r h = by (step new t.class) (leave l t
           stops = inr (viable (front ++ (t ∷ [])) n (after_push front start new t e ∙ ap (after_step (λ n. Some n)) so), room_push front 128 l t r ∙ ap (room_then (λ n. Some n)) room_is, ap (λ f. f.at) (sym g), ap (λ f. f.kind) (sym g));
         }
     by (Some n) (Some m) so room_is h again =
-        subst (λ ts. Refuses end ts f) (append_assoc front (t ∷ []) ts)
+        subst (λ ts. RefusesTokens end ts f) (append_assoc front (t ∷ []) ts)
         (again n m (after_push front start new t e ∙ ap (after_step (λ n. Some n)) so) (room_push front 128 l t r ∙ ap (room_then (λ n. Some n)) room_is) h)
 
 -- the machine's fault is the refusal
-pub refused : (t : Classed) (ts : List Classed) (end : ℕ) (f : Fault) → run end 128 start (t ∷ ts) ≡ Err f → Refuses end (t ∷ ts) f
+pub refused : (t : Classed) (ts : List Classed) (end : ℕ) (f : Fault) → run end 128 start (t ∷ ts) ≡ Err f → RefusesTokens end (t ∷ ts) f
 refused t ts end f h = stops (t ∷ ts) [] end 128 start f (λ e. cc) refl refl h
 
 -- no tokens at all
-pub nothing_refused : (end : ℕ) → Refuses end [] (record { at = end; kind = kind.Unexpected })
+pub nothing_refused : (end : ℕ) → RefusesTokens end [] (record { at = end; kind = kind.Unexpected })
 nothing_refused end = record { front = []; back = []; whole = refl; viable = viable [] start refl; shallow = (128, refl); stops = (not_whole [] _ _ refl, refl, refl) }
 
 -- where the machine goes through, no bracket is one too many

@@ -3,7 +3,7 @@ use Rattle.std.proofs.Common.{◌≡◌, ℕ, suc, ◌≤◌, List, [], ◌∷�
 use Rattle.std.specs.Prelude.{All}
 use Rattle.sp_lex.specs.declared.lexeme.Span.{Span}
 use Rattle.sp_lex.specs.declared.lexeme.Token.{Token}
-use Rattle.sp_lex.specs.Places.{IsTokenOf, IsRising, IsCut}
+use Rattle.sp_lex.specs.Places.{IsTokenOf, AreSpansRising, IsCut}
 use Rattle.sp_syntax.specs.declared.class.Classed.{Classed}
 use Rattle.sp_syntax.specs.declared.class.WordClass.{WordClass}
 use Rattle.sp_syntax.specs.declared.text.Tree.{Tree, roll-Tree}
@@ -119,7 +119,7 @@ token_spans : (source : List ℕ) (tokens : List Token) → spans_of (classes so
 token_spans source [] = refl
 token_spans source (t ∷ tokens) = ap (λ ss. t.span ∷ ss) (token_spans source tokens)
 
-rising : (source : List ℕ) (low : ℕ) (tokens : List Token) → low ≤ length source → All (IsTokenOf source) tokens → IsRising low tokens → AreRising low (map (λ t. t.span) tokens) (length source)
+rising : (source : List ℕ) (low : ℕ) (tokens : List Token) → low ≤ length source → All (IsTokenOf source) tokens → AreSpansRising low tokens → AreRising low (map (λ t. t.span) tokens) (length source)
 rising source low [] h each r = h
 rising source low (t ∷ tokens) h each r =
     let first : IsTokenOf source t = each 0 t (omega arith) in

@@ -80,8 +80,8 @@ observed_start end a ss (t ∷ ts) = by t.class t.span
     by (class.Word word.Name) s = refl
     by _ s = refl
 
-observed_good : (end left : ℕ) (ts : List Classed) → Good IsObserved end left (on AnObserved) left same (spec.observed end left ts) ts
-unfolding spec.observed
+observed_good : (end left : ℕ) (ts : List Classed) → Good IsObserved end left (on AnObserved) left same (spec.observe_entry end left ts) ts
+unfolding spec.observe_entry
 observed_good end left ts =
     entered IsObserved end left (on AnObserved) (λ ss. AName ∷ ATree ∷ ss) left same _ ts (λ ss. observed_start end left ss ts)
     (then_one IsObserved end left (λ ss. AName ∷ ATree ∷ ss) left (on ATree) left same ts IsName (one_of is_name end ts) _
@@ -98,8 +98,8 @@ kept_end_observe left c e = ap (leave left) (end_observe_means c e)
 kept_end_action : (left : ℕ) (c : TokenClass) → is_end_action (Some c) ≡ true → leave left c ≡ Some left
 kept_end_action left c e = ap (leave left) (end_action_means c e)
 
-observed_list : (end left : ℕ) → Lists IsObserved (IsKeyword word.EndObserve) is_end_observe (spec.observed end left) AnObserved MoreObserved end left left
-observed_list end left = lists IsObserved (IsKeyword word.EndObserve) is_end_observe (spec.observed end left) AnObserved MoreObserved end left left (λ c. refl) (λ ss c. refl) (λ ss c. refl) (kept_end_observe left) refl (λ t e. end_observe_means t.class e)
+observed_list : (end left : ℕ) → Lists IsObserved (IsKeyword word.EndObserve) is_end_observe (spec.observe_entry end left) AnObserved MoreObserved end left left
+observed_list end left = lists IsObserved (IsKeyword word.EndObserve) is_end_observe (spec.observe_entry end left) AnObserved MoreObserved end left left (λ c. refl) (λ ss c. refl) (λ ss c. refl) (kept_end_observe left) refl (λ t e. end_observe_means t.class e)
     (observed_good end left) observed_some
 
 item_at : (end left : ℕ) (c : TokenClass) (s : Span) (ts : List Classed) → Good IsItem end left (on AnItem) left same (spec.item_on end left (Some c) (tok c s ∷ ts)) (tok c s ∷ ts)
@@ -111,8 +111,8 @@ item_at end left (class.Word word.Name) s ts =
 item_at end left (class.Word word.Observe) s ts =
     let k : Classed = tok (class.Word word.Observe) s in
     taken IsItem end left (on AnItem) left (on MoreObserved) left same k _ ts (λ ss. refl)
-    (then_many (λ i v. IsItem i (k ∷ v)) end left (on MoreObserved) left same left same ts IsObserved (IsKeyword word.EndObserve) (many is_end_observe (spec.observed end left) end (length ts) [] ts) _
-    (many_good IsObserved (IsKeyword word.EndObserve) is_end_observe (spec.observed end left) AnObserved MoreObserved end left left (observed_list end left) (length ts) [] ts (omega arith)) (λ xs vs us b hx hb.
+    (then_many (λ i v. IsItem i (k ∷ v)) end left (on MoreObserved) left same left same ts IsObserved (IsKeyword word.EndObserve) (many is_end_observe (spec.observe_entry end left) end (length ts) [] ts) _
+    (many_good IsObserved (IsKeyword word.EndObserve) is_end_observe (spec.observe_entry end left) AnObserved MoreObserved end left left (observed_list end left) (length ts) [] ts (omega arith)) (λ xs vs us b hx hb.
     done (λ i v. IsItem i (k ∷ (vs ++ (b ∷ v)))) end left same _ us (observe k b xs vs refl hx hb refl refl)))
 item_at end left (class.Word word.Cost) s ts =
     let k : Classed = tok (class.Word word.Cost) s in

@@ -13,7 +13,7 @@ use Rattle.sp_syntax.specs.declared.class.TokenClass.TheVariants as class
 use Rattle.sp_syntax.specs.declared.class.Classed.{Classed}
 
 -- the span lies in a source of so many bytes
-pub record IsWithin (len : ℕ) (span : Span) : Type 0 where
+pub record IsSpanWithin (len : ℕ) (span : Span) : Type 0 where
   pub rises : span.start ≤ span.end
   pub fits : span.end ≤ len
 

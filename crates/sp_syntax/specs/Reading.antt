@@ -34,10 +34,10 @@ abbrev pub error_of : Fault → SyntaxError
 error_of f = error.Fault f.at f.kind
 
 -- a function of the code gives what reading gives, unless memory ran out
-abbrev pub Gives : {X : Type 0} → Result (X × List Classed) Fault → Result X SyntaxError → List Classed → Type 0
-Gives read (Ok x) new = read ≡ Ok (x, new)
-Gives read (Err (error.Fault at kind)) new = read ≡ Err (record { at = at; kind = kind })
-Gives read (Err error.NoMemory) new = ⊤
+abbrev pub GivesReading : {X : Type 0} → Result (X × List Classed) Fault → Result X SyntaxError → List Classed → Type 0
+GivesReading read (Ok x) new = read ≡ Ok (x, new)
+GivesReading read (Err (error.Fault at kind)) new = read ≡ Err (record { at = at; kind = kind })
+GivesReading read (Err error.NoMemory) new = ⊤
 
 abbrev pub head_class : List Classed → Option TokenClass
 head_class [] = None
@@ -193,8 +193,8 @@ declarations end a k ts =
     several is_close (declaration end) end ts >>= λ all. Ok (record { left = a; keyword = k; declarations = all.0.0; right = all.0.1 }, all.1)
 
 -- an entry of an observe list
-unfoldable pub observed : ℕ → ℕ → Read Observed
-observed end left ts = do
+unfoldable pub observe_entry : ℕ → ℕ → Read Observed
+observe_entry end left ts = do
   name ← one_of is_name end ts
   tree ← tree_at end left name.1
   Ok (record { name = name.0; tree = tree.0 }, tree.1)
@@ -202,7 +202,7 @@ observed end left ts = do
 abbrev pub item_on : ℕ → ℕ → Option TokenClass → Read Item
 item_on end left (Some (class.Word word.Name)) ts = tree_at end left (rest ts) >>= λ t. Ok (item.Variable (front ts) t.0, t.1)
 item_on end left (Some (class.Word word.Observe)) ts =
-    many is_end_observe (observed end left) end (length (rest ts)) [] (rest ts) >>= λ list. Ok (item.Observe (front ts) list.0.0 list.0.1, list.1)
+    many is_end_observe (observe_entry end left) end (length (rest ts)) [] (rest ts) >>= λ list. Ok (item.Observe (front ts) list.0.0 list.0.1, list.1)
 item_on end left (Some (class.Word word.Cost)) ts = tree_at end left (rest ts) >>= λ t. Ok (item.Cost (front ts) t.0, t.1)
 item_on end left _ ts = Err (here end ts)
 

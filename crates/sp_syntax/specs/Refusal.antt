@@ -68,7 +68,7 @@ StopsAt end front (t ∷ back) f =
     ⊎ (IsViable (front ++ (t ∷ [])) × (room 128 (front ++ (t ∷ [])) ≡ None) × (f.at ≡ t.span.start) × (f.kind ≡ kind.TooDeep))
 
 -- the first token behind which nothing is a text, or that opens one bracket too many, or the source's end
-pub record Refuses (end : ℕ) (ts : List Classed) (f : Fault) : Type 0 where
+pub record RefusesTokens (end : ℕ) (ts : List Classed) (f : Fault) : Type 0 where
   pub front : List Classed
   pub back : List Classed
   pub whole : ts ≡ front ++ back
@@ -77,7 +77,7 @@ pub record Refuses (end : ℕ) (ts : List Classed) (f : Fault) : Type 0 where
   pub stops : StopsAt end front back f
 
 -- what is answered for some tokens: their tree, or what is wrong with them
-abbrev pub Answers : ℕ → List Classed → Result Text SyntaxError → Type 0
-Answers end ts (Ok f) = IsText f ts × IsShallow ts
-Answers end ts (Err (error.Fault at kind)) = Refuses end ts (record { at = at; kind = kind })
-Answers end ts (Err error.NoMemory) = ⊤
+abbrev pub AnswersTokens : ℕ → List Classed → Result Text SyntaxError → Type 0
+AnswersTokens end ts (Ok f) = IsText f ts × IsShallow ts
+AnswersTokens end ts (Err (error.Fault at kind)) = RefusesTokens end ts (record { at = at; kind = kind })
+AnswersTokens end ts (Err error.NoMemory) = ⊤

@@ -3,7 +3,7 @@
 ghost use Rattle.std.specs.Prelude.{◌≡◌, ◌<◌, ◌≤◌, ℕ, All, IfErr, IfOk, length};
 ghost use Rattle.std.specs.Str.{bytes_eq};
 ghost use Rattle.sp_syntax.specs.Classes as spec;
-ghost use Rattle.sp_syntax.specs.Classes.{IsWithin, text_of};
+ghost use Rattle.sp_syntax.specs.Classes.{IsSpanWithin, text_of};
 
 use crate::error::SyntaxError;
 use sp_lex::{Span, Token, TokenKind, Tokens};
@@ -167,7 +167,7 @@ fn mark_class(mark: &[u8]) -> TokenClass
 
 /// The bytes of a span.
 fn text_of(source: &[u8], span: Span) -> &[u8]
-    requires { IsWithin (length source.now) span }
+    requires { IsSpanWithin (length source.now) span }
     ensures { result.now ≡ text_of source.now span }
 {
     &source[span.start as usize..span.end as usize]
@@ -186,7 +186,7 @@ fn without_last(text: &[u8]) -> &[u8]
 /// A token with its class.
 #[tactic(auto, unfolding(crate::specs::Classes::class_of))]
 fn with_class(source: &[u8], token: Token) -> Classed
-    requires { IsWithin (length source.now) token.span }
+    requires { IsSpanWithin (length source.now) token.span }
     ensures { result ≡ spec.with_class source.now token }
 {
     let text = text_of(source, token.span);
@@ -208,7 +208,7 @@ fn with_class(source: &[u8], token: Token) -> Classed
 /// The tokens, each with its class.
 #[tactic(auto, using(crate::proofs::ClassSteps::classes_more))]
 pub fn classes(alloc: Global, source: &[u8], tokens: &Tokens) -> Result<Vec<Classed>, SyntaxError>
-    requires { All (λ t. IsWithin (length source.now) t.span) tokens.now }
+    requires { All (λ t. IsSpanWithin (length source.now) t.span) tokens.now }
     ensures ok { IfOk result (λ list. list.items ≡ spec.classes source.now tokens.now) }
     ensures error { IfErr result (λ e. e ≡ SyntaxError.NoMemory) }
 {

@@ -2,7 +2,7 @@
 
 ghost use Rattle.std.specs.Prelude.{◌≡◌, ◌∷◌, ◌<◌, [], suc, ℕ, List, length};
 ghost use Rattle.sp_syntax.specs.Reading as spec;
-ghost use Rattle.sp_syntax.specs.Reading.{Gives, head_class, here, here_as};
+ghost use Rattle.sp_syntax.specs.Reading.{GivesReading, head_class, here, here_as};
 
 use crate::class::{Classed, TokenClass, WordClass};
 use crate::error::{SyntaxError, SyntaxKind};
@@ -150,7 +150,7 @@ impl<'a> Cursor<'a> {
     /// Takes the next token where it fits, and else refuses it.
     #[tactic(auto, unfolding(crate::specs::Reading::expect))]
     pub fn expect(&mut self, fits: bool, end: u64) -> Result<Span, SyntaxError>
-        ensures { Gives (spec.expect fits end self.old.rest.now) result self.new.rest.now }
+        ensures { GivesReading (spec.expect fits end self.old.rest.now) result self.new.rest.now }
     {
         if fits {
             Ok(self.take())

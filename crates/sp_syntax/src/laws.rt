@@ -5,7 +5,7 @@ ghost use Rattle.sp_syntax.specs.declared.text.Text.{Text};
 ghost use Rattle.sp_syntax.specs.Classes.{classes};
 ghost use Rattle.sp_syntax.specs.Fault.{Fault};
 ghost use Rattle.sp_syntax.specs.Grammar.{InGrammar, IsText};
-ghost use Rattle.sp_syntax.specs.Refusal.{IsShallow, Refuses};
+ghost use Rattle.sp_syntax.specs.Refusal.{IsShallow, RefusesTokens};
 ghost use Rattle.sp_syntax.specs.Spans.{AreRising, text_spans};
 
 use sp_lex::{Tokens, tokens_by_place};
@@ -18,7 +18,7 @@ pub fn text_is_unique(source: &[u8], tokens: &Tokens)
 /// Tokens that are refused are no text of the grammar, or one with too many open brackets: so a text is accepted exactly
 /// where it is one. It does nothing when it runs.
 pub fn refused_is_no_text(source: &[u8], tokens: &Tokens)
-    ensures { (end : ℕ) (fault : Fault) → Refuses end (classes source.now tokens.now) fault → InGrammar (classes source.now tokens.now) → IsShallow (classes source.now tokens.now) → ⊥ }
+    ensures { (end : ℕ) (fault : Fault) → RefusesTokens end (classes source.now tokens.now) fault → InGrammar (classes source.now tokens.now) → IsShallow (classes source.now tokens.now) → ⊥ }
 {}
 
 /// Places rise through a text: of the spans in its tree, in the text's order, none is empty, and each begins behind the one before

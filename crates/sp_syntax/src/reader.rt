@@ -4,8 +4,8 @@ ghost use Rattle.std.specs.Prelude.{◌≡◌, Ok, ◌∷◌, ◌++◌, ◌+◌,
 ghost use Rattle.sp_lex.specs.Tokens.{tokens_of};
 ghost use Rattle.sp_syntax.specs.Classes as class_spec;
 ghost use Rattle.sp_syntax.specs.Reading as spec;
-ghost use Rattle.sp_syntax.specs.Reading.{Gives, is_close, is_end_action, is_end_observe, is_word, many, one_of, several};
-ghost use Rattle.sp_syntax.specs.Refusal.{Answers};
+ghost use Rattle.sp_syntax.specs.Reading.{GivesReading, is_close, is_end_action, is_end_observe, is_word, many, one_of, several};
+ghost use Rattle.sp_syntax.specs.Refusal.{AnswersTokens};
 
 use crate::class::{TokenClass, WordClass, classes};
 use crate::cursor::Cursor;
@@ -21,7 +21,7 @@ use std::alloc::Global;
 /// One value or more, and the closing bracket behind them.
 #[tactic(auto, unfolding(crate::specs::Reading::several))]
 fn values(alloc: Global, cursor: &mut Cursor<'_>, end: u64) -> Result<(Values, Span), SyntaxError>
-    ensures { Gives (several is_close (one_of is_word end) end cursor.old.rest.now) result cursor.new.rest.now }
+    ensures { GivesReading (several is_close (one_of is_word end) end cursor.old.rest.now) result cursor.new.rest.now }
 {
     let first = cursor.expect(cursor.at_word(), end)?;
     let mut values = Values::new(alloc);
@@ -35,7 +35,7 @@ fn more_values(
     end: u64,
     front: Values,
 ) -> Result<(Values, Span), SyntaxError>
-    ensures { Gives (many is_close (one_of is_word end) end (length cursor.old.rest.now) front cursor.old.rest.now) result cursor.new.rest.now }
+    ensures { GivesReading (many is_close (one_of is_word end) end (length cursor.old.rest.now) front cursor.old.rest.now) result cursor.new.rest.now }
 {
     let mut values = front;
     let turns = cursor.rest.len();
@@ -52,7 +52,7 @@ fn more_values(
 
 #[tactic(auto, unfolding(crate::specs::Reading::declaration))]
 fn declaration(alloc: Global, cursor: &mut Cursor<'_>, end: u64) -> Result<Declaration, SyntaxError>
-    ensures { Gives (spec.declaration end cursor.old.rest.now) result cursor.new.rest.now }
+    ensures { GivesReading (spec.declaration end cursor.old.rest.now) result cursor.new.rest.now }
 {
     let left = cursor.expect(cursor.at_open(), end)?;
     let name = cursor.expect(cursor.at_name(), end)?;
@@ -72,7 +72,7 @@ fn declaration_list(
     cursor: &mut Cursor<'_>,
     end: u64,
 ) -> Result<(DeclarationList, Span), SyntaxError>
-    ensures { Gives (several is_close (spec.declaration end) end cursor.old.rest.now) result cursor.new.rest.now }
+    ensures { GivesReading (several is_close (spec.declaration end) end cursor.old.rest.now) result cursor.new.rest.now }
 {
     let first = declaration(alloc, cursor, end)?;
     let mut list = DeclarationList::new(alloc);
@@ -87,7 +87,7 @@ fn more_declarations(
     end: u64,
     front: DeclarationList,
 ) -> Result<(DeclarationList, Span), SyntaxError>
-    ensures { Gives (many is_close (spec.declaration end) end (length cursor.old.rest.now) front cursor.old.rest.now) result cursor.new.rest.now }
+    ensures { GivesReading (many is_close (spec.declaration end) end (length cursor.old.rest.now) front cursor.old.rest.now) result cursor.new.rest.now }
 {
     let mut list = front;
     let turns = cursor.rest.len();
@@ -111,7 +111,7 @@ fn declarations(
     left: Span,
     keyword: Span,
 ) -> Result<Declarations, SyntaxError>
-    ensures { Gives (spec.declarations end left keyword cursor.old.rest.now) result cursor.new.rest.now }
+    ensures { GivesReading (spec.declarations end left keyword cursor.old.rest.now) result cursor.new.rest.now }
 {
     let (declarations, right) = declaration_list(alloc, cursor, end)?;
     Ok(Declarations {
@@ -122,14 +122,14 @@ fn declarations(
     })
 }
 
-#[tactic(auto, unfolding(crate::specs::Reading::observed))]
+#[tactic(auto, unfolding(crate::specs::Reading::observe_entry))]
 fn observed(
     alloc: Global,
     cursor: &mut Cursor<'_>,
     end: u64,
     left: u64,
 ) -> Result<Observed, SyntaxError>
-    ensures { Gives (spec.observed end left cursor.old.rest.now) result cursor.new.rest.now }
+    ensures { GivesReading (spec.observe_entry end left cursor.old.rest.now) result cursor.new.rest.now }
 {
     let name = cursor.expect(cursor.at_name(), end)?;
     let tree = tree(alloc, cursor, end, left)?;
@@ -144,7 +144,7 @@ fn observed_list(
     end: u64,
     left: u64,
 ) -> Result<(ObservedList, Span), SyntaxError>
-    ensures { Gives (many is_end_observe (spec.observed end left) end (length cursor.old.rest.now) [] cursor.old.rest.now) result cursor.new.rest.now }
+    ensures { GivesReading (many is_end_observe (spec.observe_entry end left) end (length cursor.old.rest.now) [] cursor.old.rest.now) result cursor.new.rest.now }
 {
     let mut list = ObservedList::new(alloc);
     let turns = cursor.rest.len();
@@ -161,7 +161,7 @@ fn observed_list(
 
 #[tactic(auto, unfolding(crate::specs::Reading::item_at))]
 fn item(alloc: Global, cursor: &mut Cursor<'_>, end: u64, left: u64) -> Result<Item, SyntaxError>
-    ensures { Gives (spec.item_at end left cursor.old.rest.now) result cursor.new.rest.now }
+    ensures { GivesReading (spec.item_at end left cursor.old.rest.now) result cursor.new.rest.now }
 {
     match cursor.peek() {
         Some(TokenClass::Word(WordClass::Name)) => {
@@ -195,7 +195,7 @@ fn items(
     end: u64,
     left: u64,
 ) -> Result<(Items, Span), SyntaxError>
-    ensures { Gives (many is_end_action (spec.item_at end left) end (length cursor.old.rest.now) [] cursor.old.rest.now) result cursor.new.rest.now }
+    ensures { GivesReading (many is_end_action (spec.item_at end left) end (length cursor.old.rest.now) [] cursor.old.rest.now) result cursor.new.rest.now }
 {
     let mut items = Items::new(alloc);
     let turns = cursor.rest.len();
@@ -219,7 +219,7 @@ fn action(
     left: u64,
     keyword: Span,
 ) -> Result<Section, SyntaxError>
-    ensures { Gives (spec.action end left keyword cursor.old.rest.now) result cursor.new.rest.now }
+    ensures { GivesReading (spec.action end left keyword cursor.old.rest.now) result cursor.new.rest.now }
 {
     let name = cursor.expect(cursor.at_name(), end)?;
     let (items, word) = items(alloc, cursor, end, left)?;
@@ -240,7 +240,7 @@ fn dd(
     left: u64,
     keyword: Span,
 ) -> Result<Section, SyntaxError>
-    ensures { Gives (spec.dd end left keyword cursor.old.rest.now) result cursor.new.rest.now }
+    ensures { GivesReading (spec.dd end left keyword cursor.old.rest.now) result cursor.new.rest.now }
 {
     let name = cursor.expect(cursor.at_name(), end)?;
     let tree = tree(alloc, cursor, end, left)?;
@@ -260,7 +260,7 @@ fn section(
     end: u64,
     left: u64,
 ) -> Result<Section, SyntaxError>
-    ensures { Gives (spec.section_at end left cursor.old.rest.now) result cursor.new.rest.now }
+    ensures { GivesReading (spec.section_at end left cursor.old.rest.now) result cursor.new.rest.now }
 {
     match cursor.peek() {
         Some(TokenClass::Word(WordClass::Init)) => {
@@ -311,7 +311,7 @@ fn sections(
     end: u64,
     left: u64,
 ) -> Result<Sections, SyntaxError>
-    ensures { Gives (spec.sections end left (length cursor.old.rest.now) [] cursor.old.rest.now) result cursor.new.rest.now }
+    ensures { GivesReading (spec.sections end left (length cursor.old.rest.now) [] cursor.old.rest.now) result cursor.new.rest.now }
 {
     let mut sections = Sections::new(alloc);
     let turns = cursor.rest.len();
@@ -328,7 +328,7 @@ fn sections(
 /// A whole text, where `left` brackets may be opened.
 #[tactic(auto, unfolding(crate::specs::Reading::text))]
 fn text(alloc: Global, cursor: &mut Cursor<'_>, end: u64, left: u64) -> Result<Text, SyntaxError>
-    ensures { Gives (spec.text end left cursor.old.rest.now) result cursor.new.rest.now }
+    ensures { GivesReading (spec.text end left cursor.old.rest.now) result cursor.new.rest.now }
 {
     let bracket = cursor.expect(cursor.at_open(), end)?;
     let keyword = cursor.expect(cursor.at_variables(), end)?;
@@ -353,7 +353,7 @@ const MOST_OPEN: u64 = 128;
 /// which nothing could make a text, or that is the 129th open bracket, or the source's length.
 pub fn parse(alloc: Global, source: &[u8], tokens: &Tokens) -> Result<Text, SyntaxError>
     requires { tokens_of source.now ≡ Ok tokens.now }
-    ensures { Answers (length source.now) (class_spec.classes source.now tokens.now) result }
+    ensures { AnswersTokens (length source.now) (class_spec.classes source.now tokens.now) result }
 {
     tokens_by_place(source);
     let end = source.len() as u64;

@@ -2,7 +2,7 @@
 
 ghost use Rattle.std.specs.Prelude.{◌≡◌, ◌∷◌, ◌++◌, ◌+◌, ◌-◌, ◌<◌, ◌≤◌, suc, ℕ, List, length};
 ghost use Rattle.sp_syntax.specs.Reading as spec;
-ghost use Rattle.sp_syntax.specs.Reading.{Gives, is_close, is_right_square, head_class, many};
+ghost use Rattle.sp_syntax.specs.Reading.{GivesReading, is_close, is_right_square, head_class, many};
 
 use crate::class::{TokenClass, WordClass};
 use crate::cursor::Cursor;
@@ -20,7 +20,7 @@ pub fn tree(
     end: u64,
     left: u64,
 ) -> Result<Tree, SyntaxError>
-    ensures { Gives (spec.tree_at end left cursor.old.rest.now) result cursor.new.rest.now }
+    ensures { GivesReading (spec.tree_at end left cursor.old.rest.now) result cursor.new.rest.now }
 {
     match cursor.peek() {
         Some(TokenClass::Open) => {
@@ -51,7 +51,7 @@ fn round(
     bracket: Span,
     left: u64,
 ) -> Result<Tree, SyntaxError>
-    ensures { Gives (spec.round (spec.branch_at end left) end bracket cursor.old.rest.now) result cursor.new.rest.now }
+    ensures { GivesReading (spec.round (spec.branch_at end left) end bracket cursor.old.rest.now) result cursor.new.rest.now }
 {
     match cursor.peek() {
         Some(TokenClass::Word(WordClass::Number | WordClass::Minus)) => {
@@ -92,7 +92,7 @@ fn after_name(
     name: Span,
     left: u64,
 ) -> Result<Tree, SyntaxError>
-    ensures { Gives (spec.after_name (spec.branch_at end left) end bracket name cursor.old.rest.now) result cursor.new.rest.now }
+    ensures { GivesReading (spec.after_name (spec.branch_at end left) end bracket name cursor.old.rest.now) result cursor.new.rest.now }
 {
     if cursor.at_close() {
         let right = cursor.take();
@@ -120,7 +120,7 @@ fn branches(
     end: u64,
     left: u64,
 ) -> Result<(Branches, Span), SyntaxError>
-    ensures { Gives (spec.several is_close (spec.branch_at end left) end cursor.old.rest.now) result cursor.new.rest.now }
+    ensures { GivesReading (spec.several is_close (spec.branch_at end left) end cursor.old.rest.now) result cursor.new.rest.now }
 {
     let first = branch(alloc, cursor, end, left)?;
     let mut branches = Branches::new(alloc);
@@ -136,7 +136,7 @@ fn branch(
     end: u64,
     left: u64,
 ) -> Result<Branch, SyntaxError>
-    ensures { Gives (spec.branch_at end left cursor.old.rest.now) result cursor.new.rest.now }
+    ensures { GivesReading (spec.branch_at end left cursor.old.rest.now) result cursor.new.rest.now }
 {
     match cursor.peek() {
         Some(TokenClass::Open) => {
@@ -168,7 +168,7 @@ fn more_branches(
     front: Branches,
     left: u64,
 ) -> Result<(Branches, Span), SyntaxError>
-    ensures { Gives (many is_close (spec.branch_at end left) end (length cursor.old.rest.now) front cursor.old.rest.now) result cursor.new.rest.now }
+    ensures { GivesReading (many is_close (spec.branch_at end left) end (length cursor.old.rest.now) front cursor.old.rest.now) result cursor.new.rest.now }
 {
     let mut branches = front;
     let turns = cursor.rest.len();
@@ -193,7 +193,7 @@ fn square(
     bracket: Span,
     left: u64,
 ) -> Result<Tree, SyntaxError>
-    ensures { Gives (spec.square (spec.tree_at end left) end bracket cursor.old.rest.now) result cursor.new.rest.now }
+    ensures { GivesReading (spec.square (spec.tree_at end left) end bracket cursor.old.rest.now) result cursor.new.rest.now }
 {
     match cursor.peek() {
         Some(TokenClass::Plus) => {
@@ -232,7 +232,7 @@ fn trees(
     end: u64,
     left: u64,
 ) -> Result<(Trees, Span), SyntaxError>
-    ensures { Gives (spec.several is_right_square (spec.tree_at end left) end cursor.old.rest.now) result cursor.new.rest.now }
+    ensures { GivesReading (spec.several is_right_square (spec.tree_at end left) end cursor.old.rest.now) result cursor.new.rest.now }
 {
     let first = tree(alloc, cursor, end, left)?;
     let mut trees = Trees::new(alloc);
@@ -250,7 +250,7 @@ fn more_trees(
     front: Trees,
     left: u64,
 ) -> Result<(Trees, Span), SyntaxError>
-    ensures { Gives (many is_right_square (spec.tree_at end left) end (length cursor.old.rest.now) front cursor.old.rest.now) result cursor.new.rest.now }
+    ensures { GivesReading (many is_right_square (spec.tree_at end left) end (length cursor.old.rest.now) front cursor.old.rest.now) result cursor.new.rest.now }
 {
     let mut trees = front;
     let turns = cursor.rest.len();

@@ -12,13 +12,13 @@ use Rattle.sp_dd.specs.Operations.{everywhere, part_chosen}
 use Rattle.sp_dd.proofs.FuncLemmas.{scope_some}
 use Rattle.sp_dd.proofs.PointLemmas.{parts_pos, place-below, point_at-turn}
 use Rattle.sp_dd.proofs.IndependenceLemmas.{point-below}
-use Rattle.sp_table.specs.Widths.{Mentions, AreWidths, Reads, IsJoin, IsPartFrame, ArePartWidths, part_of}
+use Rattle.sp_table.specs.Widths.{AreWidthsOf, AreWidths, IgnoresUnmentioned, IsJoin, IsPartFrame, ArePartWidths, part_of}
 use Rattle.sp_table.proofs.PlaceLemmas.{Mentions-length, Mentions-pos, Mentions-refl, IsPoint-length}
 use Rattle.sp_table.proofs.FrameLemmas.{Means, made, reads_more, Mentions-ones}
 
 -- widths of 1 fit any scope
-pub mentions_ones : (ss us : List ℕ) (n : ℕ) → us ≡ replicate n 1 → n ≡ length ss → Mentions us ss
-mentions_ones ss us n e long = let P : List ℕ → Type 0 = λ l. Mentions l ss in subst P (sym (e ∙ ap (λ k. replicate k 1) long)) (Mentions-ones ss)
+pub mentions_ones : (ss us : List ℕ) (n : ℕ) → us ≡ replicate n 1 → n ≡ length ss → AreWidthsOf us ss
+mentions_ones ss us n e long = let P : List ℕ → Type 0 = λ l. AreWidthsOf l ss in subst P (sym (e ∙ ap (λ k. replicate k 1) long)) (Mentions-ones ss)
 
 -- a part has the scope
 pub part_shape : (s : Shape) (parts : List Func) (j : ℕ) → All (λ (p : Func). p.shape ≡ s) parts → j < length parts → (part_of s parts j).shape ≡ s
@@ -30,12 +30,12 @@ part_is s parts j part less e = e ∙ get_or_default parts j part (everywhere s 
 
 -- widths that are joined with those of one more part
 pub record ReadsParts (s : Shape) (parts : List Func) (n : ℕ) (us : List ℕ) : Type 0 where
-  pub mentions : Mentions us s.sizes
-  pub reads : (j : ℕ) → j < n → Reads us (part_of s parts j)
+  pub mentions : AreWidthsOf us s.sizes
+  pub reads : (j : ℕ) → j < n → IgnoresUnmentioned us (part_of s parts j)
 
-reads_grown : (s : Shape) (f : Func) (old new : List ℕ) → IsScope s → f.shape ≡ s → Mentions old new → Mentions new s.sizes → Reads old f → Reads new f
+reads_grown : (s : Shape) (f : Func) (old new : List ℕ) → IsScope s → f.shape ≡ s → AreWidthsOf old new → AreWidthsOf new s.sizes → IgnoresUnmentioned old f → IgnoresUnmentioned new f
 reads_grown s f old new h e m n reads =
-    let P : Shape → Type 0 = λ t. Mentions new t.sizes in
+    let P : Shape → Type 0 = λ t. AreWidthsOf new t.sizes in
     let Q : Shape → Type 0 = λ t. IsScope t in
     reads_more f old new (subst Q (sym e) h) m (subst P (sym e) n) reads
 
@@ -43,25 +43,25 @@ pub parts_more : (s : Shape) (parts : List Func) (i : ℕ) (part : Func) (old ks
 parts_more s parts i part old ks new h all less e before same join =
     let is = part_is s parts i part less e in
     let shape : part.shape ≡ s = ap (λ (f : Func). f.shape) is ∙ part_shape s parts i all less in
-    let P : Shape → Type 0 = λ t. Mentions new t.sizes in
-    let Q : List ℕ → Type 0 = λ l. Mentions l new in
-    let R : Func → Type 0 = λ f. Reads new f in
-    let m : Mentions new s.sizes = subst P shape join.frame.mentions in
-    let grown : Mentions old new = subst Q same join.grown in
+    let P : Shape → Type 0 = λ t. AreWidthsOf new t.sizes in
+    let Q : List ℕ → Type 0 = λ l. AreWidthsOf l new in
+    let R : Func → Type 0 = λ f. IgnoresUnmentioned new f in
+    let m : AreWidthsOf new s.sizes = subst P shape join.frame.mentions in
+    let grown : AreWidthsOf old new = subst Q same join.grown in
     record {
       mentions = m;
       reads = below_more _ _ (λ j b. reads_grown s (part_of s parts j) old new h (part_shape s parts j all (omega arith)) grown m (before.reads j b)) (subst R is join.frame.reads);
     }
 
 -- one slot mentioned in full
-pub Mentions-full : (us ss : List ℕ) (slot : ℕ) → Mentions us ss → Mentions (set us slot (get_or ss slot 0)) ss
+pub Mentions-full : (us ss : List ℕ) (slot : ℕ) → AreWidthsOf us ss → AreWidthsOf (set us slot (get_or ss slot 0)) ss
 Mentions-full [] [] slot m = tt
 Mentions-full [] (s ∷ ss) slot m = absurd m
 Mentions-full (u ∷ us) [] slot m = absurd m
 Mentions-full (u ∷ us) (s ∷ ss) zero m = (inr refl, m.1)
 Mentions-full (u ∷ us) (s ∷ ss) (suc i) m = (m.0, Mentions-full us ss i m.1)
 
-pub Mentions-grown : (us ss : List ℕ) (slot : ℕ) → Mentions us ss → Mentions us (set us slot (get_or ss slot 0))
+pub Mentions-grown : (us ss : List ℕ) (slot : ℕ) → AreWidthsOf us ss → AreWidthsOf us (set us slot (get_or ss slot 0))
 Mentions-grown [] [] slot m = tt
 Mentions-grown [] (s ∷ ss) slot m = absurd m
 Mentions-grown (u ∷ us) [] slot m = absurd m
@@ -70,8 +70,8 @@ Mentions-grown (u ∷ us) (s ∷ ss) (suc i) m = (inr refl, Mentions-grown us ss
 
 pub part_frame : (s : Shape) (parts : List Func) (slot : ℕ) (us : List ℕ) (n v : ℕ) → IsScope s → All (λ (p : Func). p.shape ≡ s) parts → slot < length s.sizes → length parts ≤ n → ReadsParts s parts n us → v ≡ size_of s slot → IsPartFrame s slot parts (set us slot v)
 part_frame s parts slot us n v h all within enough before e =
-    let full : Mentions (set us slot (size_of s slot)) s.sizes = Mentions-full us s.sizes slot before.mentions in
-    let grown : Mentions us (set us slot (size_of s slot)) = Mentions-grown us s.sizes slot before.mentions in
+    let full : AreWidthsOf (set us slot (size_of s slot)) s.sizes = Mentions-full us s.sizes slot before.mentions in
+    let grown : AreWidthsOf us (set us slot (size_of s slot)) = Mentions-grown us s.sizes slot before.mentions in
     let long : slot < length us = omega (arith, within, Mentions-length us s.sizes before.mentions) in
     let P : ℕ → Type 0 = λ w. IsPartFrame s slot parts (set us slot w) in
     subst P (sym e)
@@ -113,7 +113,7 @@ get_or-kept (w ∷ ws) (y ∷ ys) (suc i) h e less =
     ap (λ l. get_or l i 0) (point_at-turn ws (y % w) (place ws ys) parts.1) ∙ get_or-kept ws ys i parts.1 (omega arith) (omega arith)
 
 -- a slot that is mentioned in full keeps its coordinate
-pub full_kept : (s : Shape) (us x : List ℕ) (slot : ℕ) → IsScope s → Mentions us s.sizes → get_or us slot 0 ≡ size_of s slot → slot < length s.sizes → IsPoint s.sizes x → get_or (point_at us (place us x)) slot 0 ≡ get_or x slot 0
+pub full_kept : (s : Shape) (us x : List ℕ) (slot : ℕ) → IsScope s → AreWidthsOf us s.sizes → get_or us slot 0 ≡ size_of s slot → slot < length s.sizes → IsPoint s.sizes x → get_or (point_at us (place us x)) slot 0 ≡ get_or x slot 0
 full_kept s us x slot h m full within p =
     let long = Mentions-length us s.sizes m in
     get_or-kept us x slot (Mentions-pos us s.sizes m (scope_some s h)) (long ∙ IsPoint-length s.sizes x p) (omega (arith, within, long))
@@ -133,9 +133,9 @@ branched s parts slot us to es n frame all within enough d n_is fits es_is =
     ∙ frame.reads (get_or x slot 0) less x there))
 
 -- widths of the scope fit a part
-pub fits_part : (s : Shape) (parts : List Func) (i : ℕ) (part : Func) (us ks : List ℕ) → All (λ (p : Func). p.shape ≡ s) parts → i < length parts → part ≡ get_or parts i part → ks ≡ us → Mentions us s.sizes → Mentions ks part.shape.sizes
+pub fits_part : (s : Shape) (parts : List Func) (i : ℕ) (part : Func) (us ks : List ℕ) → All (λ (p : Func). p.shape ≡ s) parts → i < length parts → part ≡ get_or parts i part → ks ≡ us → AreWidthsOf us s.sizes → AreWidthsOf ks part.shape.sizes
 fits_part s parts i part us ks all less e same m =
     let shape : part.shape ≡ s = ap (λ (f : Func). f.shape) (part_is s parts i part less e) ∙ part_shape s parts i all less in
-    let P : Shape → Type 0 = λ t. Mentions ks t.sizes in
-    let Q : List ℕ → Type 0 = λ l. Mentions l s.sizes in
+    let P : Shape → Type 0 = λ t. AreWidthsOf ks t.sizes in
+    let Q : List ℕ → Type 0 = λ l. AreWidthsOf l s.sizes in
     subst P (sym shape) (subst Q (sym same) m)

@@ -11,8 +11,8 @@ use Rattle.sp_dd.specs.Func.{Shape, Func, IsScope, value_of, IsPointOf, Everywhe
 use Rattle.sp_dd.specs.Operations.{IsAtMost, IsFirstAbove, IsFirstApart}
 use Rattle.sp_dd.proofs.FuncLemmas.{scope_some, same_everywhere, IsPoint-with}
 use Rattle.sp_dd.proofs.PointLemmas.{parts_pos, place-below, point_at-turn}
-use Rattle.sp_table.specs.Widths.{Mentions, IsFrame, Agrees, Differs}
-use Rattle.sp_table.specs.Searches.{IsFirst}
+use Rattle.sp_table.specs.Widths.{AreWidthsOf, IsFrame, Agrees, Differs}
+use Rattle.sp_table.specs.Searches.{IsFirstNumber}
 use Rattle.sp_table.proofs.PlaceLemmas.{Mentions-length, Mentions-pos, Mentions-refl, IsPoint-length, length-point_at, place-kept, MentionsBut, MentionsBut-set}
 use Rattle.sp_table.proofs.FrameLemmas.{Holds, reads_own, reads_set, point_within, point_too}
 use Rattle.sp_table.proofs.BranchLemmas.{get_or-kept}
@@ -40,7 +40,7 @@ size_more w s d (inl e) h less = omega arith
 size_more w s d (inr e) h less = omega arith
 
 -- a point of some widths comes in slot order no later than each point that names its place, or a later one
-pub place-first : (ws ss y : List ℕ) (k : ℕ) → Mentions ws ss → IsPoint ss y → 0 < product ss → 0 < product ws → k < product ws → k ≤ place ws y → place ss (point_at ws k) ≤ place ss y
+pub place-first : (ws ss y : List ℕ) (k : ℕ) → AreWidthsOf ws ss → IsPoint ss y → 0 < product ss → 0 < product ws → k < product ws → k ≤ place ws y → place ss (point_at ws k) ≤ place ss y
 place-first [] [] [] k m p h some less most = omega arith
 place-first [] [] (y ∷ ys) k m p h some less most = absurd p
 place-first [] (s ∷ ss) y k m p h some less most = absurd m
@@ -76,7 +76,7 @@ place-first (w ∷ ws) (s ∷ ss) (y ∷ ys) k m p h some less most =
     ]
 
 -- the place of an earlier point is before
-pub earlier : (s : Shape) (us y : List ℕ) (k : ℕ) → IsScope s → Mentions us s.sizes → IsPoint s.sizes y → k < product us → place s.sizes y < place s.sizes (point_at us k) → place us y < k
+pub earlier : (s : Shape) (us y : List ℕ) (k : ℕ) → IsScope s → AreWidthsOf us s.sizes → IsPoint s.sizes y → k < product us → place s.sizes y < place s.sizes (point_at us k) → place us y < k
 earlier s us y k h m p less before =
     let some = Mentions-pos us s.sizes m (scope_some s h) in
     elim (cases_lt (place us y) k) [
@@ -85,9 +85,9 @@ earlier s us y k h m p less before =
     ]
 
 -- the first place at which f is above g is the first such point
-pub first_above_is : (f g : Func) (us to pt : List ℕ) (n k : ℕ) → f.shape ≡ g.shape → IsFrame f us → IsFrame g us → to ≡ us → n ≡ product to → IsFirst n (λ k. value_of f (point_at to k) ≤ℤ value_of g (point_at to k)) (λ k. value_of g (point_at to k) <ℤ value_of f (point_at to k)) k → pt ≡ point_at to k → IsFirstAbove f g pt
+pub first_above_is : (f g : Func) (us to pt : List ℕ) (n k : ℕ) → f.shape ≡ g.shape → IsFrame f us → IsFrame g us → to ≡ us → n ≡ product to → IsFirstNumber n (λ k. value_of f (point_at to k) ≤ℤ value_of g (point_at to k)) (λ k. value_of g (point_at to k) <ℤ value_of f (point_at to k)) k → pt ≡ point_at to k → IsFirstAbove f g pt
 first_above_is f g us to pt n k shapes left right d n_is first is =
-    let P : List ℕ → Type 0 = λ l. IsFirst n (λ k. value_of f (point_at l k) ≤ℤ value_of g (point_at l k)) (λ k. value_of g (point_at l k) <ℤ value_of f (point_at l k)) k in
+    let P : List ℕ → Type 0 = λ l. IsFirstNumber n (λ k. value_of f (point_at l k) ≤ℤ value_of g (point_at l k)) (λ k. value_of g (point_at l k) <ℤ value_of f (point_at l k)) k in
     let here = subst P d first in
     let Q : List ℕ → Type 0 = λ x. IsFirstAbove f g x in
     let less : k < product us = omega (arith, here.within, n_is, ap product d) in
@@ -111,9 +111,9 @@ none_above_is f g us to n shapes left right d n_is all x p =
     let B : ℤ → Type 0 = λ z. value_of f x ≤ℤ z in
     subst B (right.reads x (point_too f g x shapes p)) (subst A (left.reads x p) good)
 
-pub first_apart_is : (f : Func) (v : ℤ) (us to pt : List ℕ) (n k : ℕ) → IsFrame f us → to ≡ us → n ≡ product to → IsFirst n (λ k. value_of f (point_at to k) ≡ v) (λ k. value_of f (point_at to k) ≢ v) k → pt ≡ point_at to k → IsFirstApart f v pt
+pub first_apart_is : (f : Func) (v : ℤ) (us to pt : List ℕ) (n k : ℕ) → IsFrame f us → to ≡ us → n ≡ product to → IsFirstNumber n (λ k. value_of f (point_at to k) ≡ v) (λ k. value_of f (point_at to k) ≢ v) k → pt ≡ point_at to k → IsFirstApart f v pt
 first_apart_is f v us to pt n k frame d n_is first is =
-    let P : List ℕ → Type 0 = λ l. IsFirst n (λ k. value_of f (point_at l k) ≡ v) (λ k. value_of f (point_at l k) ≢ v) k in
+    let P : List ℕ → Type 0 = λ l. IsFirstNumber n (λ k. value_of f (point_at l k) ≡ v) (λ k. value_of f (point_at l k) ≢ v) k in
     let here = subst P d first in
     let Q : List ℕ → Type 0 = λ x. IsFirstApart f v x in
     let less : k < product us = omega (arith, here.within, n_is, ap product d) in
@@ -143,7 +143,7 @@ agrees_is f g ws to cs n held d n_is all =
       same = λ x p. sym ((subst P d all) (place ws x) (omega (arith, place-below ws x held.some, held.table.whole, n_is))) ∙ reads_own ws cs f held x p;
     }
 
-pub differs_is : (f g : Func) (ws to : List ℕ) (cs : List ℤ) (n k : ℕ) → Holds ws cs f → to ≡ ws → IsFirst n (λ k. value_of f (point_at to k) ≡ value_of g (point_at to k)) (λ k. value_of f (point_at to k) ≢ value_of g (point_at to k)) k → Differs f g
+pub differs_is : (f g : Func) (ws to : List ℕ) (cs : List ℤ) (n k : ℕ) → Holds ws cs f → to ≡ ws → IsFirstNumber n (λ k. value_of f (point_at to k) ≡ value_of g (point_at to k)) (λ k. value_of f (point_at to k) ≢ value_of g (point_at to k)) k → Differs f g
 differs_is f g ws to cs n k held d first =
     let P : List ℕ → Type 0 = λ l. value_of f (point_at l k) ≢ value_of g (point_at l k) in
     record { point = point_at ws k; inside = point_within f.shape ws k held.table.scope held.table.mentions; apart = subst P d first.bad }
@@ -161,7 +161,7 @@ swap_mod a b s x h (inr e) (inl d) =
     right ∙ sym (ap (λ w. w % a) left ∙ mod-eq_of_lt (omega (arith, e, h)))
 swap_mod a b s x h (inr e) (inr d) = ap (λ w. x % a % w) (d ∙ sym e) ∙ ap (λ w. x % w % a) (e ∙ sym d)
 
-Mentions-at : (us ss : List ℕ) (i : ℕ) → Mentions us ss → i < length us → get_or us i 0 ≡ 1 ⊎ get_or us i 0 ≡ get_or ss i 0
+Mentions-at : (us ss : List ℕ) (i : ℕ) → AreWidthsOf us ss → i < length us → get_or us i 0 ≡ 1 ⊎ get_or us i 0 ≡ get_or ss i 0
 Mentions-at [] ss i m h = absurd (omega arith)
 Mentions-at (u ∷ us) [] i m h = absurd m
 Mentions-at (u ∷ us) (s ∷ ss) zero m h = m.0
@@ -177,7 +177,7 @@ pub size_some : (s : Shape) (slot : ℕ) → IsScope s → slot < length s.sizes
 size_some s slot h less = size_low s.sizes slot h.each less
 
 -- the slots that neither of two widths mentions, taken in either order
-kept_swap : (s : Shape) (us vs x : List ℕ) → IsScope s → Mentions us s.sizes → Mentions vs s.sizes → 0 < product us → 0 < product vs → IsPoint s.sizes x → point_at vs (place vs (point_at us (place us x))) ≡ point_at us (place us (point_at vs (place vs x)))
+kept_swap : (s : Shape) (us vs x : List ℕ) → IsScope s → AreWidthsOf us s.sizes → AreWidthsOf vs s.sizes → 0 < product us → 0 < product vs → IsPoint s.sizes x → point_at vs (place vs (point_at us (place us x))) ≡ point_at us (place us (point_at vs (place vs x)))
 kept_swap s us vs x h m n a b p =
     let long_u = Mentions-length us s.sizes m in
     let long_v = Mentions-length vs s.sizes n in
@@ -192,14 +192,14 @@ kept_swap s us vs x h m n a b p =
     ∙ swap_mod (get_or us i 0) (get_or vs i 0) (get_or s.sizes i 0) (get_or x i 0) (size_low s.sizes i h.each (omega (arith, within, long_v))) (Mentions-at us s.sizes i m (omega (arith, within, long_u, long_v))) (Mentions-at vs s.sizes i n within)
     ∙ sym (get_or-kept us (point_at vs (place vs x)) i a (omega (arith, second, long_u, long_v)) (omega (arith, within, long_u, long_v)) ∙ ap (λ d. d % get_or us i 0) (get_or-kept vs x i b (long_v ∙ long_x) within))))
 
-kept_twice : (s : Shape) (us x : List ℕ) → Mentions us s.sizes → 0 < product us → IsPoint s.sizes x → point_at us (place us (point_at us (place us x))) ≡ point_at us (place us x)
+kept_twice : (s : Shape) (us x : List ℕ) → AreWidthsOf us s.sizes → 0 < product us → IsPoint s.sizes x → point_at us (place us (point_at us (place us x))) ≡ point_at us (place us x)
 kept_twice s us x m some p = ap (point_at us) (place-kept us us x (Mentions-refl us) some (Mentions-length us s.sizes m ∙ IsPoint-length s.sizes x p))
 
 -- functions that agree both ways are one
 pub same_is : (f g : Func) → f.shape ≡ g.shape → Agrees f g → Agrees g f → f ≡ g
 same_is f g shapes one two =
-    let P : Shape → Type 0 = λ s. Mentions two.widths s.sizes in
-    let m : Mentions two.widths f.shape.sizes = subst P (sym shapes) two.mentions in
+    let P : Shape → Type 0 = λ s. AreWidthsOf two.widths s.sizes in
+    let m : AreWidthsOf two.widths f.shape.sizes = subst P (sym shapes) two.mentions in
     same_everywhere f g one.scope one.determined two.determined shapes (λ x p.
     (let xa = point_within f.shape one.widths (place one.widths x) one.scope one.mentions in
     let xb = point_within f.shape two.widths (place two.widths x) one.scope m in
@@ -238,7 +238,7 @@ stays_is f ws to cs n slot held within d n_is all x v p less =
     in
     sym (first (set x slot v) (IsPoint-with f.shape.sizes x slot v p less)) ∙ ap (value_of f) (set_again x slot v 0) ∙ first x p
 
-pub moves_is : (f : Func) (ws to : List ℕ) (cs : List ℤ) (n k slot : ℕ) → Holds ws cs f → slot < length f.shape.sizes → to ≡ ws → IsFirst n (λ k. value_of f (set (point_at to k) slot 0) ≡ value_of f (point_at to k)) (λ k. value_of f (set (point_at to k) slot 0) ≢ value_of f (point_at to k)) k → DependsOn f slot
+pub moves_is : (f : Func) (ws to : List ℕ) (cs : List ℤ) (n k slot : ℕ) → Holds ws cs f → slot < length f.shape.sizes → to ≡ ws → IsFirstNumber n (λ k. value_of f (set (point_at to k) slot 0) ≡ value_of f (point_at to k)) (λ k. value_of f (set (point_at to k) slot 0) ≢ value_of f (point_at to k)) k → DependsOn f slot
 moves_is f ws to cs n k slot held within d first =
     let P : List ℕ → Type 0 = λ l. value_of f (set (point_at l k) slot 0) ≢ value_of f (point_at l k) in
     record {

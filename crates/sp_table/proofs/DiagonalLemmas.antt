@@ -7,13 +7,13 @@ use Rattle.sp_dd.specs.Func.{Shape, Func, IsScope, value_of, size_of}
 use Rattle.sp_dd.specs.Operations.{on_diagonal, IsPrimedSlot}
 use Rattle.sp_dd.proofs.FuncLemmas.{scope_some}
 use Rattle.sp_dd.proofs.IndependenceLemmas.{point-below}
-use Rattle.sp_table.specs.Widths.{Mentions, IsSlotFrame, IsDiagonalFrame}
+use Rattle.sp_table.specs.Widths.{AreWidthsOf, IsSlotFrame, IsDiagonalFrame}
 use Rattle.sp_table.proofs.PlaceLemmas.{Mentions-length, Mentions-pos, IsPoint-length, place-kept}
 use Rattle.sp_table.proofs.FrameLemmas.{Means, framed, point_within}
 use Rattle.sp_table.proofs.BranchLemmas.{Mentions-full, Mentions-grown, full_kept}
 
 -- more widths without a slot
-slot_grown : (f : Func) (slot : ℕ) (us vs : List ℕ) → IsSlotFrame f slot us → Mentions us vs → Mentions vs f.shape.sizes → IsSlotFrame f slot vs
+slot_grown : (f : Func) (slot : ℕ) (us vs : List ℕ) → IsSlotFrame f slot us → AreWidthsOf us vs → AreWidthsOf vs f.shape.sizes → IsSlotFrame f slot vs
 slot_grown f slot us vs frame m n =
     let some = Mentions-pos vs f.shape.sizes n (scope_some f.shape frame.scope) in
     record {

@@ -8,11 +8,11 @@ use Rattle.std.specs.List.{range_with_len}
 use Rattle.std.proofs.lemmas.List.FromFn.{get_or-map-range_with_len, length-map-range_with_len}
 use Rattle.sp_dd.specs.Points.{product, place, point_at, IsPoint, exchange}
 use Rattle.sp_dd.specs.Func.{Shape, Func, value_of, IsIndependentOf}
-use Rattle.sp_dd.specs.Operations.{exchanged}
+use Rattle.sp_dd.specs.Operations.{exchange_of_slots}
 use Rattle.sp_dd.proofs.FuncLemmas.{scope_some}
 use Rattle.sp_dd.proofs.PointLemmas.{place-below}
 use Rattle.sp_table.specs.Cells.{cell_at}
-use Rattle.sp_table.specs.Widths.{Mentions, IsFrame, without_each, exchange_at, exchange_each}
+use Rattle.sp_table.specs.Widths.{AreWidthsOf, IsFrame, without_each, exchange_at, exchange_each}
 use Rattle.sp_table.proofs.PlaceLemmas.{Mentions-length, Mentions-pos, Mentions-set, IsPoint-length}
 use Rattle.sp_table.proofs.FrameLemmas.{Means, means, reads_less}
 
@@ -101,7 +101,7 @@ half : (v a b : ℕ) → a ≡ b → v ≡ 1 ⊎ v ≡ b → v ≡ 1 ⊎ v ≡ a
 half v a b e (inl h) = inl h
 half v a b e (inr h) = inr (h ∙ sym e)
 
-pub Mentions-exchange : (n : ℕ) (ws ss : List ℕ) → Paired n ss → Mentions ws ss → Mentions (exchange n ws) ss
+pub Mentions-exchange : (n : ℕ) (ws ss : List ℕ) → Paired n ss → AreWidthsOf ws ss → AreWidthsOf (exchange n ws) ss
 Mentions-exchange zero ws ss e m = m
 Mentions-exchange (suc n) ws [] e m = absurd e
 Mentions-exchange (suc n) ws (s ∷ []) e m = absurd e
@@ -164,7 +164,7 @@ get_or-without first (suc n) i us o h less =
     ]
 
 -- the cells of a function at widths that mention one slot of each pair, under exchanged widths, mean the exchanged function
-pub renamed_is : (f : Func) (s : Shape) (ws us vs to : List ℕ) (es : List ℤ) (n first : ℕ) → s ≡ f.shape → IsFrame f ws → first ≤ 1 → ((j : ℕ) → j < f.shape.variables → IsIndependentOf f (2 * j + first)) → us ≡ without_each first f.shape.variables ws → to ≡ us → vs ≡ exchange_each f.shape.variables us → n ≡ product to → n < 2 ^ 63 → es ≡ map (λ k. value_of f (point_at to k)) (range_with_len 0 n) → Means s vs es (exchanged f)
+pub renamed_is : (f : Func) (s : Shape) (ws us vs to : List ℕ) (es : List ℤ) (n first : ℕ) → s ≡ f.shape → IsFrame f ws → first ≤ 1 → ((j : ℕ) → j < f.shape.variables → IsIndependentOf f (2 * j + first)) → us ≡ without_each first f.shape.variables ws → to ≡ us → vs ≡ exchange_each f.shape.variables us → n ≡ product to → n < 2 ^ 63 → es ≡ map (λ k. value_of f (point_at to k)) (range_with_len 0 n) → Means s vs es (exchange_of_slots f)
 renamed_is f s ws us vs to es n first e own o free us_is d vs_is n_is fits es_is =
     let m = f.shape.variables in
     let F : List ℕ → Type 0 = λ l. IsFrame f l in
@@ -186,7 +186,7 @@ renamed_is f s ws us vs to es n first e own o free us_is d vs_is n_is fits es_is
     ∙ get_or-map-range_with_len (λ k. value_of f (point_at us k)) 0 (product us) (place us (exchange f.shape.variables x)) (place us (exchange f.shape.variables x)) (pos 0) (place-below us (exchange f.shape.variables x) some) (omega arith)
     ∙ frame.reads (exchange f.shape.variables x) (IsPoint-exchange f.shape.variables f.shape.sizes x paired p)
     in
-    let P : List ℕ → Type 0 = λ l. Means s l es (exchanged f) in
+    let P : List ℕ → Type 0 = λ l. Means s l es (exchange_of_slots f) in
     subst P (sym all)
     (means s f.shape (exchange f.shape.variables us) es (λ x. value_of f (exchange f.shape.variables x)) e own.scope (Mentions-exchange f.shape.variables us f.shape.sizes paired frame.mentions) whole (omega (arith, fits, count, product-exchange f.shape.variables us)) at)
 

@@ -6,8 +6,8 @@ use Rattle.sp_dd.proofs.ScopeLemmas.{AllSizes-get_or}
 use Rattle.std.proofs.lemmas.List.{set-get_or}
 use Rattle.std.specs.Prelude.{ℤ, pos, slice_set, replicate, ◌+ℤ◌, ◌*ℤ◌}
 use Rattle.std.proofs.Common.{add-one}
-use Rattle.sp_dd.specs.Floors.{sum_to, weighed, floor_div, ticks}
-use Rattle.sp_dd.specs.Operations.{summed_out, weighed_out, restricted}
+use Rattle.sp_dd.specs.Floors.{sum_to, floored_mean, floor_div, ticks}
+use Rattle.sp_dd.specs.Operations.{summed_out, weighed_out, restriction}
 use Rattle.std.specs.List.{zip, range_with_len}
 use Rattle.std.proofs.lemmas.List.FromFn.{get_or-map-range_with_len, map-range_with_len_more, length-map-range_with_len}
 use Rattle.sp_dd.specs.Points.{product, place, point_at, IsPoint}
@@ -16,7 +16,7 @@ use Rattle.sp_dd.proofs.FuncLemmas.{value_of-function_of, same_function, scope_s
 use Rattle.sp_dd.proofs.PointLemmas.{place-below, place-point_at, point_at_is, parts_pos}
 use Rattle.sp_dd.proofs.IndependenceLemmas.{point-below}
 use Rattle.sp_table.specs.Cells.{cell_at, meaning, IsTable}
-use Rattle.sp_table.specs.Widths.{Mentions, AreWidths, Reads, IsFrame, IsJoin, IsSlotFrame}
+use Rattle.sp_table.specs.Widths.{AreWidthsOf, AreWidths, IgnoresUnmentioned, IsFrame, IsJoin, IsSlotFrame}
 use Rattle.sp_table.proofs.PlaceLemmas.{Mentions-length, Mentions-pos, Mentions-refl, IsPoint-length, IsPoint-within, place-kept, MentionsBut, MentionsBut-set, Mentions-set, place-kept_but}
 
 -- what a table's fields say of its function
@@ -43,7 +43,7 @@ pub scope_is : (s : Shape) (ws : List ℕ) (cs : List ℤ) (f : Func) → meanin
 scope_is s ws cs f e = ap (λ (g : Func). g.shape) e
 
 -- a point of some widths is a point of the scope
-pub point_within : (s : Shape) (us : List ℕ) (k : ℕ) → IsScope s → Mentions us s.sizes → IsPoint s.sizes (point_at us k)
+pub point_within : (s : Shape) (us : List ℕ) (k : ℕ) → IsScope s → AreWidthsOf us s.sizes → IsPoint s.sizes (point_at us k)
 point_within s us k h m =
     let some = scope_some s h in
     IsPoint-within us s.sizes _ m some (point_at_is us k (Mentions-pos us s.sizes m some))
@@ -53,14 +53,14 @@ pub widths_some : (s : Shape) (us : List ℕ) → AreWidths s us → 0 < product
 widths_some s us h = Mentions-pos us s.sizes h.mentions (scope_some s h.scope)
 
 -- a function reads its own widths
-pub reads_own : (ws : List ℕ) (cs : List ℤ) (f : Func) → Holds ws cs f → Reads ws f
+pub reads_own : (ws : List ℕ) (cs : List ℤ) (f : Func) → Holds ws cs f → IgnoresUnmentioned ws f
 reads_own ws cs f h x p =
     let point = point_within f.shape ws (place ws x) h.table.scope h.table.mentions in
     let kept = place-kept ws ws x (Mentions-refl ws) h.some (Mentions-length ws f.shape.sizes h.table.mentions ∙ IsPoint-length f.shape.sizes x p) in
     sym (h.value _ point) ∙ ap (λ n. get_or cs n (pos 0)) kept ∙ h.value x p
 
 -- it reads more widths
-pub reads_more : (f : Func) (us vs : List ℕ) → IsScope f.shape → Mentions us vs → Mentions vs f.shape.sizes → Reads us f → Reads vs f
+pub reads_more : (f : Func) (us vs : List ℕ) → IsScope f.shape → AreWidthsOf us vs → AreWidthsOf vs f.shape.sizes → IgnoresUnmentioned us f → IgnoresUnmentioned vs f
 reads_more f us vs scope m n reads x p =
     let point = point_within f.shape vs (place vs x) scope n in
     let some = Mentions-pos vs f.shape.sizes n (scope_some f.shape scope) in
@@ -68,7 +68,7 @@ reads_more f us vs scope m n reads x p =
     sym (reads _ point) ∙ ap (λ k. value_of f (point_at us k)) kept ∙ reads x p
 
 -- with a value in one slot, it reads that slot from nowhere else
-pub reads_set : (f : Func) (us vs : List ℕ) (slot v : ℕ) (x : List ℕ) → IsScope f.shape → Reads us f → MentionsBut slot us vs → Mentions vs f.shape.sizes → IsPointOf f x → v < size_of f.shape slot → value_of f (slice_set (point_at vs (place vs x)) slot v) ≡ value_of f (slice_set x slot v)
+pub reads_set : (f : Func) (us vs : List ℕ) (slot v : ℕ) (x : List ℕ) → IsScope f.shape → IgnoresUnmentioned us f → MentionsBut slot us vs → AreWidthsOf vs f.shape.sizes → IsPointOf f x → v < size_of f.shape slot → value_of f (slice_set (point_at vs (place vs x)) slot v) ≡ value_of f (slice_set x slot v)
 reads_set f us vs slot v x scope reads m n p less =
     let some = Mentions-pos vs f.shape.sizes n (scope_some f.shape scope) in
     let there : IsPointOf f (slice_set (point_at vs (place vs x)) slot v) = IsPoint-with f.shape.sizes _ slot v (point_within f.shape vs (place vs x) scope n) less in
@@ -77,10 +77,10 @@ reads_set f us vs slot v x scope reads m n p less =
     sym (reads _ there) ∙ ap (λ k. value_of f (point_at us k)) kept ∙ reads _ here
 
 -- a slot on which it doesn't depend need not be mentioned
-pub reads_less : (f : Func) (us : List ℕ) (slot : ℕ) → IsScope f.shape → slot < length f.shape.sizes → Reads us f → Mentions us f.shape.sizes → IsIndependentOf f slot → Reads (slice_set us slot 1) f
+pub reads_less : (f : Func) (us : List ℕ) (slot : ℕ) → IsScope f.shape → slot < length f.shape.sizes → IgnoresUnmentioned us f → AreWidthsOf us f.shape.sizes → IsIndependentOf f slot → IgnoresUnmentioned (slice_set us slot 1) f
 reads_less f us slot scope within reads n free x p =
     let vs = slice_set us slot 1 in
-    let m : Mentions (slice_set us slot 1) f.shape.sizes = Mentions-set us f.shape.sizes slot n in
+    let m : AreWidthsOf (slice_set us slot 1) f.shape.sizes = Mentions-set us f.shape.sizes slot n in
     let less : get_or x slot 0 < size_of f.shape slot = point-below f.shape.sizes x slot p within in
     let point = point_within f.shape (slice_set us slot 1) (place (slice_set us slot 1) x) scope m in
     let moved = reads_set f us (slice_set us slot 1) slot (get_or x slot 0) x scope reads (MentionsBut-set us us slot 1 (Mentions-refl us)) m p less in
@@ -92,7 +92,7 @@ pub record Means (s : Shape) (ws : List ℕ) (cs : List ℤ) (f : Func) : Type 0
   pub is : meaning s ws cs ≡ f
 
 -- cells that mean a function at each point
-pub means : (s r : Shape) (us : List ℕ) (es : List ℤ) (g : List ℕ → ℤ) → s ≡ r → IsScope r → Mentions us r.sizes → length es ≡ product us → product us < 2 ^ 63 → ((x : List ℕ) → IsPoint r.sizes x → cell_at us es x ≡ g x) → Means s us es (function_of r g)
+pub means : (s r : Shape) (us : List ℕ) (es : List ℤ) (g : List ℕ → ℤ) → s ≡ r → IsScope r → AreWidthsOf us r.sizes → length es ≡ product us → product us < 2 ^ 63 → ((x : List ℕ) → IsPoint r.sizes x → cell_at us es x ≡ g x) → Means s us es (function_of r g)
 means s r us es g e scope m whole fits at =
     let P : Shape → Type 0 = λ t. Means t us es (function_of r g) in
     subst P (sym e)
@@ -102,7 +102,7 @@ means s r us es g e scope m whole fits at =
     })
 
 -- cells that were made at each point of some widths
-pub made : (s r : Shape) (us : List ℕ) (es : List ℤ) (h g : List ℕ → ℤ) (n : ℕ) → s ≡ r → IsScope r → Mentions us r.sizes → n ≡ product us → n < 2 ^ 63 → es ≡ map (λ k. h (point_at us k)) (range_with_len 0 n) → ((x : List ℕ) → IsPoint r.sizes x → h (point_at us (place us x)) ≡ g x) → Means s us es (function_of r g)
+pub made : (s r : Shape) (us : List ℕ) (es : List ℤ) (h g : List ℕ → ℤ) (n : ℕ) → s ≡ r → IsScope r → AreWidthsOf us r.sizes → n ≡ product us → n < 2 ^ 63 → es ≡ map (λ k. h (point_at us k)) (range_with_len 0 n) → ((x : List ℕ) → IsPoint r.sizes x → h (point_at us (place us x)) ≡ g x) → Means s us es (function_of r g)
 made s r us es h g n e scope m n_is fits es_is at =
     let some = Mentions-pos us r.sizes m (scope_some r scope) in
     let cells : es ≡ map (λ k. h (point_at us k)) (range_with_len 0 (product us)) = es_is ∙ ap (λ n. map (λ k. h (point_at us k)) (range_with_len 0 n)) n_is in
@@ -139,11 +139,11 @@ join_each w v s h (inr e) (inr d) = (inr (omega arith), inr (omega arith), inr (
 
 -- widths that are joined from two
 pub record Joins (ws vs us ss : List ℕ) : Type 0 where
-  pub scope : Mentions us ss
-  pub left : Mentions ws us
-  pub right : Mentions vs us
+  pub scope : AreWidthsOf us ss
+  pub left : AreWidthsOf ws us
+  pub right : AreWidthsOf vs us
 
-pub Joins-joined : (ws vs ss : List ℕ) → 0 < product ss → Mentions ws ss → Mentions vs ss → Joins ws vs (joined_widths ws vs) ss
+pub Joins-joined : (ws vs ss : List ℕ) → 0 < product ss → AreWidthsOf ws ss → AreWidthsOf vs ss → Joins ws vs (joined_widths ws vs) ss
 Joins-joined [] [] [] h m n = record { scope = tt; left = tt; right = tt }
 Joins-joined [] vs (s ∷ ss) h m n = absurd m
 Joins-joined (w ∷ ws) vs [] h m n = absurd m
@@ -156,7 +156,7 @@ Joins-joined (w ∷ ws) (v ∷ vs) (s ∷ ss) h m n =
     record { scope = (head.0, rest.scope); left = (head.1, rest.left); right = (head.2, rest.right) }
 
 -- joined widths mention what a function reads
-pub frame_joined : (ws vs us gs : List ℕ) (cs : List ℤ) (f : Func) → Holds vs cs f → Mentions ws f.shape.sizes → gs ≡ vs → us ≡ joined_widths ws gs → IsJoin f ws us
+pub frame_joined : (ws vs us gs : List ℕ) (cs : List ℤ) (f : Func) → Holds vs cs f → AreWidthsOf ws f.shape.sizes → gs ≡ vs → us ≡ joined_widths ws gs → IsJoin f ws us
 frame_joined ws vs us gs cs f h m d e =
     let joins = Joins-joined ws vs f.shape.sizes (scope_some f.shape h.table.scope) m h.table.mentions in
     let P : List ℕ → Type 0 = λ l. IsJoin f ws l in
@@ -171,7 +171,7 @@ frame_joined ws vs us gs cs f h m d e =
     })
 
 -- widths of 1 mention no slot
-pub Mentions-ones : (ss : List ℕ) → Mentions (replicate (length ss) 1) ss
+pub Mentions-ones : (ss : List ℕ) → AreWidthsOf (replicate (length ss) 1) ss
 Mentions-ones [] = tt
 Mentions-ones (s ∷ ss) = (inl refl, Mentions-ones ss)
 
@@ -238,7 +238,7 @@ are_widths f us to n frame e n_is fits =
     subst P (sym e) (record { scope = frame.scope; mentions = frame.mentions; fits = omega (arith, n_is, fits, ap product e) })
 
 -- cells that were made of a frame's points mean the same at each point
-pub framed : (h g : List ℕ → ℤ) (f : Func) (s : Shape) (us to : List ℕ) (es : List ℤ) (n : ℕ) → s ≡ f.shape → IsScope f.shape → Mentions us f.shape.sizes → to ≡ us → n ≡ product to → n < 2 ^ 63 → es ≡ map (λ k. h (point_at to k)) (range_with_len 0 n) → ((x : List ℕ) → IsPointOf f x → h (point_at us (place us x)) ≡ g x) → Means s us es (function_of f.shape g)
+pub framed : (h g : List ℕ → ℤ) (f : Func) (s : Shape) (us to : List ℕ) (es : List ℤ) (n : ℕ) → s ≡ f.shape → IsScope f.shape → AreWidthsOf us f.shape.sizes → to ≡ us → n ≡ product to → n < 2 ^ 63 → es ≡ map (λ k. h (point_at to k)) (range_with_len 0 n) → ((x : List ℕ) → IsPointOf f x → h (point_at us (place us x)) ≡ g x) → Means s us es (function_of f.shape g)
 framed h g f s us to es n e scope m d n_is fits es_is at =
     made s f.shape us es h g n e scope m (n_is ∙ ap product d) fits (es_is ∙ ap (λ l. map (λ k. h (point_at l k)) (range_with_len 0 n)) d) at
 
@@ -249,7 +249,7 @@ combined op f g s us to es n e shapes left right d n_is fits es_is =
     (λ x p. op_same op _ _ _ _ (left.reads x p) (right.reads x (point_too f g x shapes p)))
 
 -- widths of one slot
-pub Mentions-one : (ss : List ℕ) (slot : ℕ) → Mentions (set (replicate (length ss) 1) slot (get_or ss slot 0)) ss
+pub Mentions-one : (ss : List ℕ) (slot : ℕ) → AreWidthsOf (set (replicate (length ss) 1) slot (get_or ss slot 0)) ss
 Mentions-one [] slot = tt
 Mentions-one (s ∷ ss) zero = (inr refl, Mentions-ones ss)
 Mentions-one (s ∷ ss) (suc i) = (inl refl, Mentions-one ss i)
@@ -284,22 +284,22 @@ by_leaf s ws us cs leaves n slot v h len within widths_are v_is set_is cells_are
 -- widths that another function's were joined to
 pub frame_grown : (f g : Func) (us ks vs : List ℕ) → f.shape ≡ g.shape → IsFrame f us → ks ≡ us → IsJoin g ks vs → IsFrame f vs
 frame_grown f g us ks vs shapes frame e join =
-    let P : Shape → Type 0 = λ s. Mentions vs s.sizes in
-    let Q : List ℕ → Type 0 = λ l. Mentions l vs in
-    let m : Mentions vs f.shape.sizes = subst P (sym shapes) join.frame.mentions in
+    let P : Shape → Type 0 = λ s. AreWidthsOf vs s.sizes in
+    let Q : List ℕ → Type 0 = λ l. AreWidthsOf l vs in
+    let m : AreWidthsOf vs f.shape.sizes = subst P (sym shapes) join.frame.mentions in
     record { scope = frame.scope; mentions = m; reads = reads_more f us vs frame.scope (subst Q e join.grown) m frame.reads }
 
 -- a frame of one function fits the scope of another
-pub mentions_too : (f g : Func) (us ks : List ℕ) → f.shape ≡ g.shape → IsFrame f us → ks ≡ us → Mentions ks g.shape.sizes
+pub mentions_too : (f g : Func) (us ks : List ℕ) → f.shape ≡ g.shape → IsFrame f us → ks ≡ us → AreWidthsOf ks g.shape.sizes
 mentions_too f g us ks shapes frame e =
-    let P : Shape → Type 0 = λ s. Mentions ks s.sizes in
-    let Q : List ℕ → Type 0 = λ l. Mentions l f.shape.sizes in
+    let P : Shape → Type 0 = λ s. AreWidthsOf ks s.sizes in
+    let Q : List ℕ → Type 0 = λ l. AreWidthsOf l f.shape.sizes in
     subst P shapes (subst Q (sym e) frame.mentions)
 
 -- a frame without one slot
 pub slot_frame : (f : Func) (us vs : List ℕ) (slot : ℕ) → IsFrame f us → vs ≡ set us slot 1 → IsSlotFrame f slot vs
 slot_frame f us vs slot frame e =
-    let m : Mentions (set us slot 1) f.shape.sizes = Mentions-set us f.shape.sizes slot frame.mentions in
+    let m : AreWidthsOf (set us slot 1) f.shape.sizes = Mentions-set us f.shape.sizes slot frame.mentions in
     let P : List ℕ → Type 0 = λ l. IsSlotFrame f slot l in
     subst P (sym e)
     (record {
@@ -336,18 +336,18 @@ slot_summed f s slot size us to es n e frame size_is d n_is fits es_is =
     ∙ ap (λ m. sum_to m (λ v. value_of f (slice_set x slot v))) size_is)
 
 -- a weighed mean over a slot's values at each point of a frame without it
-pub slot_weighed : (f g : Func) (s : Shape) (slot size : ℕ) (us to : List ℕ) (es : List ℤ) (n : ℕ) → s ≡ f.shape → f.shape ≡ g.shape → IsSlotFrame f slot us → IsSlotFrame g slot us → size ≡ size_of f.shape slot → to ≡ us → n ≡ product to → n < 2 ^ 63 → es ≡ map (λ k. weighed ticks size (λ v. value_of g (slice_set (point_at to k) slot v)) (λ v. value_of f (slice_set (point_at to k) slot v))) (range_with_len 0 n) → Means s us es (weighed_out f slot g)
+pub slot_weighed : (f g : Func) (s : Shape) (slot size : ℕ) (us to : List ℕ) (es : List ℤ) (n : ℕ) → s ≡ f.shape → f.shape ≡ g.shape → IsSlotFrame f slot us → IsSlotFrame g slot us → size ≡ size_of f.shape slot → to ≡ us → n ≡ product to → n < 2 ^ 63 → es ≡ map (λ k. floored_mean ticks size (λ v. value_of g (slice_set (point_at to k) slot v)) (λ v. value_of f (slice_set (point_at to k) slot v))) (range_with_len 0 n) → Means s us es (weighed_out f slot g)
 slot_weighed f g s slot size us to es n e shapes left right size_is d n_is fits es_is =
-    framed (λ x. weighed ticks size (λ v. value_of g (slice_set x slot v)) (λ v. value_of f (slice_set x slot v))) (λ x. weighed ticks (size_of f.shape slot) (λ v. value_of g (slice_set x slot v)) (λ v. value_of f (slice_set x slot v))) f s us to es n e left.scope left.mentions d n_is fits es_is
+    framed (λ x. floored_mean ticks size (λ v. value_of g (slice_set x slot v)) (λ v. value_of f (slice_set x slot v))) (λ x. floored_mean ticks (size_of f.shape slot) (λ v. value_of g (slice_set x slot v)) (λ v. value_of f (slice_set x slot v))) f s us to es n e left.scope left.mentions d n_is fits es_is
     (λ x p.
     ap (λ z. floor_div z ticks) (sum_to-same size _ _ (λ v b.
     op_same (λ a b. a *ℤ b) _ _ _ _
     (right.reads x (point_too f g x shapes p) v (omega (arith, b, size_is, ap (λ (t : Shape). size_of t slot) shapes)))
     (left.reads x p v (omega (arith, b, size_is)))))
-    ∙ ap (λ m. weighed ticks m (λ v. value_of g (slice_set x slot v)) (λ v. value_of f (slice_set x slot v))) size_is)
+    ∙ ap (λ m. floored_mean ticks m (λ v. value_of g (slice_set x slot v)) (λ v. value_of f (slice_set x slot v))) size_is)
 
 -- the value with one slot at a value, at each point of a frame without it
-pub slot_restricted : (f : Func) (s : Shape) (slot value : ℕ) (us to : List ℕ) (es : List ℤ) (n : ℕ) → s ≡ f.shape → IsSlotFrame f slot us → value < size_of f.shape slot → to ≡ us → n ≡ product to → n < 2 ^ 63 → es ≡ map (λ k. value_of f (slice_set (point_at to k) slot value)) (range_with_len 0 n) → Means s us es (restricted f slot value)
+pub slot_restricted : (f : Func) (s : Shape) (slot value : ℕ) (us to : List ℕ) (es : List ℤ) (n : ℕ) → s ≡ f.shape → IsSlotFrame f slot us → value < size_of f.shape slot → to ≡ us → n ≡ product to → n < 2 ^ 63 → es ≡ map (λ k. value_of f (slice_set (point_at to k) slot value)) (range_with_len 0 n) → Means s us es (restriction f slot value)
 slot_restricted f s slot value us to es n e frame less d n_is fits es_is =
     framed (λ x. value_of f (slice_set x slot value)) (λ x. value_of f (slice_set x slot value)) f s us to es n e frame.scope frame.mentions d n_is fits es_is
     (λ x p. frame.reads x p value less)

@@ -7,11 +7,11 @@ use Rattle.sp_dd.specs.Points.{place, point_at}
 use Rattle.sp_dd.specs.Func.{Shape, Func, value_of, IsPointOf}
 use Rattle.sp_dd.specs.Operations.{IsLeast, IsGreatest}
 use Rattle.sp_dd.proofs.PointLemmas.{place-below, place-point_at}
-use Rattle.sp_table.specs.Cells.{meaning, IsTable, IsLeastOf, IsGreatestOf}
+use Rattle.sp_table.specs.Cells.{meaning, IsTable, IsLeastCell, IsGreatestOf}
 use Rattle.sp_table.proofs.FrameLemmas.{Holds, holds, point_within}
 
 -- one more cell is met
-pub least_more : (cells : List ℤ) (i : ℕ) (old new : ℤ) → i < length cells → IsLeastOf cells i old → new ≡ int_min old (get_or cells i (pos 0)) → IsLeastOf cells (i + 1) new
+pub least_more : (cells : List ℤ) (i : ℕ) (old new : ℤ) → i < length cells → IsLeastCell cells i old → new ≡ int_min old (get_or cells i (pos 0)) → IsLeastCell cells (i + 1) new
 least_more cells i old new less before e =
     let is = int_min_is old (get_or cells i (pos 0)) in
     let low : int_min old (get_or cells i (pos 0)) ≤ℤ old = omega (arith, ints, is) in
@@ -39,11 +39,11 @@ cell_point ws cs f k h less =
     (point, sym (h.value _ point) ∙ ap (λ n. get_or cs n (pos 0)) here)
 
 -- the least cell is the least value
-pub least_is : (s : Shape) (ws : List ℕ) (cs ds : List ℤ) (f : Func) (v : ℤ) → IsTable s ws cs → meaning s ws cs ≡ f → ds ≡ cs → IsLeastOf ds (length ds) v → IsLeast f v
+pub least_is : (s : Shape) (ws : List ℕ) (cs ds : List ℤ) (f : Func) (v : ℤ) → IsTable s ws cs → meaning s ws cs ≡ f → ds ≡ cs → IsLeastCell ds (length ds) v → IsLeast f v
 least_is s ws cs ds f v table is e least =
     let held = holds s ws cs f table is in
-    let P : List ℤ → Type 0 = λ l. IsLeastOf l (length l) v in
-    let all : IsLeastOf cs (length cs) v = subst P e least in
+    let P : List ℤ → Type 0 = λ l. IsLeastCell l (length l) v in
+    let all : IsLeastCell cs (length cs) v = subst P e least in
     let here = cell_point ws cs f all.at held all.inside in
     let Q : ℤ → Type 0 = λ z. v ≤ℤ z in
     record {

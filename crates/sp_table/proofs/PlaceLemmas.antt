@@ -2,7 +2,7 @@ use Rattle.std.proofs.lemmas.Nat.{div-mul-add}
 use Rattle.std.proofs.Math.Nat.{mod-eq_of_lt}
 use Rattle.sp_dd.proofs.PointLemmas.{point_at-turn}
 use Rattle.sp_dd.specs.Points.{IsPoint}
-use Rattle.sp_table.specs.Widths.{Mentions}
+use Rattle.sp_table.specs.Widths.{AreWidthsOf}
 use Rattle.std.proofs.Common.{◌≡◌, ℕ, zero, suc, ◌<◌, ◌≤◌, ◌+◌, ◌*◌, ◌/◌, ◌%◌, sym, ◌∙◌, ap, arith, List, [], ◌∷◌, length, drop, get_or, refl, ◌⊎◌, inl, inr, mul_comm, add_comm, add-one, ◌≢◌, slice_set, get_or-set_same, get_or-set_other, Fits, w64, ◌^◌}
 use Rattle.std.proofs.lemmas.Bool.{cases_eq}
 use Rattle.std.proofs.lemmas.List.{drop_more}
@@ -59,7 +59,7 @@ place_back ws fs k i j at rest stride e within same at_is rest_is stride_is =
     )
 
 -- as many widths as sizes
-pub Mentions-length : (ws ss : List ℕ) → Mentions ws ss → length ws ≡ length ss
+pub Mentions-length : (ws ss : List ℕ) → AreWidthsOf ws ss → length ws ≡ length ss
 Mentions-length [] [] m = refl
 Mentions-length [] (s ∷ ss) m = absurd m
 Mentions-length (w ∷ ws) [] m = absurd m
@@ -77,7 +77,7 @@ width_pos w s (inl e) h = omega arith
 width_pos w s (inr e) h = omega arith
 
 -- a table has a cell
-pub Mentions-pos : (ws ss : List ℕ) → Mentions ws ss → 0 < product ss → 0 < product ws
+pub Mentions-pos : (ws ss : List ℕ) → AreWidthsOf ws ss → 0 < product ss → 0 < product ws
 Mentions-pos [] [] m h = h
 Mentions-pos [] (s ∷ ss) m h = absurd m
 Mentions-pos (w ∷ ws) [] m h = absurd m
@@ -93,7 +93,7 @@ coordinate_within : (w s x : ℕ) → w ≡ 1 ⊎ w ≡ s → 0 < s → x < w �
 coordinate_within w s x (inl e) h b = omega arith
 coordinate_within w s x (inr e) h b = omega arith
 
-pub IsPoint-within : (ws ss xs : List ℕ) → Mentions ws ss → 0 < product ss → IsPoint ws xs → IsPoint ss xs
+pub IsPoint-within : (ws ss xs : List ℕ) → AreWidthsOf ws ss → 0 < product ss → IsPoint ws xs → IsPoint ss xs
 IsPoint-within [] [] [] m h p = tt
 IsPoint-within [] [] (x ∷ xs) m h p = absurd p
 IsPoint-within [] (s ∷ ss) xs m h p = absurd m
@@ -109,7 +109,7 @@ coordinate_kept f w x (inl e) h = rw (e) (omega (arith, mod_below (x % w) 1 (ome
 coordinate_kept f w x (inr e) h = rw (e) (mod-eq_of_lt (mod_below x w h))
 
 -- the place among fewer slots is that of the point that the other place names
-pub place-kept : (fs ws xs : List ℕ) → Mentions fs ws → 0 < product ws → length ws ≡ length xs → place fs (point_at ws (place ws xs)) ≡ place fs xs
+pub place-kept : (fs ws xs : List ℕ) → AreWidthsOf fs ws → 0 < product ws → length ws ≡ length xs → place fs (point_at ws (place ws xs)) ≡ place fs xs
 place-kept [] [] xs m h e = refl
 place-kept [] (w ∷ ws) xs m h e = absurd m
 place-kept (f ∷ fs) [] xs m h e = absurd m
@@ -161,10 +161,10 @@ abbrev pub MentionsBut : ℕ → List ℕ → List ℕ → Type 0
 MentionsBut s [] [] = Unit {0}
 MentionsBut s [] (u ∷ us) = ⊥
 MentionsBut s (f ∷ fs) [] = ⊥
-MentionsBut zero (f ∷ fs) (u ∷ us) = Mentions fs us
+MentionsBut zero (f ∷ fs) (u ∷ us) = AreWidthsOf fs us
 MentionsBut (suc s) (f ∷ fs) (u ∷ us) = (f ≡ 1 ⊎ f ≡ u) × MentionsBut s fs us
 
-pub MentionsBut-set : (fs us : List ℕ) (s v : ℕ) → Mentions fs us → MentionsBut s fs (slice_set us s v)
+pub MentionsBut-set : (fs us : List ℕ) (s v : ℕ) → AreWidthsOf fs us → MentionsBut s fs (slice_set us s v)
 MentionsBut-set [] [] s v m = tt
 MentionsBut-set [] (u ∷ us) s v m = absurd m
 MentionsBut-set (f ∷ fs) [] s v m = absurd m
@@ -172,7 +172,7 @@ MentionsBut-set (f ∷ fs) (u ∷ us) zero v m = m.1
 MentionsBut-set (f ∷ fs) (u ∷ us) (suc s) v m = (m.0, MentionsBut-set fs us s v m.1)
 
 -- a slot that isn't mentioned any more
-pub Mentions-set : (us ss : List ℕ) (s : ℕ) → Mentions us ss → Mentions (slice_set us s 1) ss
+pub Mentions-set : (us ss : List ℕ) (s : ℕ) → AreWidthsOf us ss → AreWidthsOf (slice_set us s 1) ss
 Mentions-set [] [] s m = tt
 Mentions-set [] (t ∷ ss) s m = absurd m
 Mentions-set (u ∷ us) [] s m = absurd m
@@ -196,6 +196,6 @@ place-kept_but (f ∷ fs) (w ∷ ws) (x ∷ xs) (suc s) v m h e =
     rw (head, rest, coordinate_kept f w x m.0 parts.0)
 
 -- widths mention themselves
-pub Mentions-refl : (ws : List ℕ) → Mentions ws ws
+pub Mentions-refl : (ws : List ℕ) → AreWidthsOf ws ws
 Mentions-refl [] = tt
 Mentions-refl (w ∷ ws) = (inr refl, Mentions-refl ws)

@@ -7,7 +7,7 @@ use Rattle.sp_dd.specs.Floors.{sum_to}
 use Rattle.sp_dd.specs.Points.{product, state_widths, ones, point_at}
 use Rattle.sp_dd.specs.Func.{Func, Shape, IsScope, value_of, Everywhere, state_count, state_at}
 use Rattle.sp_table.proofs.FrameLemmas.{point_within}
-use Rattle.sp_table.specs.Widths.{Mentions, AreWidths}
+use Rattle.sp_table.specs.Widths.{AreWidthsOf, AreWidths}
 
 -- a sum of numbers that aren't negative, and its parts
 pub total-pos : (n : ℕ) (w : ℕ → ℤ) → ((k : ℕ) → pos 0 ≤ℤ w k) → pos 0 ≤ℤ sum_to n w
@@ -108,11 +108,11 @@ pub width_more : (ws old new : List ℕ) (i w : ℕ) → i < length ws → old �
 width_more ws old new i w less before after is = after ∙ ap (λ l. l ++ w ∷ []) before ∙ ap (λ v. take i ws ++ v ∷ []) is ∙ sym (take_more ws i 0 less)
 
 -- the widths of a state's slots are widths of the scope
-Mentions-ones-of : (ws : List ℕ) → Mentions (ones ws) ws
+Mentions-ones-of : (ws : List ℕ) → AreWidthsOf (ones ws) ws
 Mentions-ones-of [] = tt
 Mentions-ones-of (w ∷ ws) = (inl refl, Mentions-ones-of ws)
 
-pub Mentions-state_widths : (n : ℕ) (ws : List ℕ) → Mentions (state_widths n ws) ws
+pub Mentions-state_widths : (n : ℕ) (ws : List ℕ) → AreWidthsOf (state_widths n ws) ws
 Mentions-state_widths zero ws = Mentions-ones-of ws
 Mentions-state_widths (suc n) [] = tt
 Mentions-state_widths (suc n) (w ∷ []) = (inr refl, tt)

@@ -5,37 +5,37 @@ use Rattle.sp_dd.specs.Func.{Shape, Func, IsFunc, IsScope, IsPointOf, value_of, 
 use Rattle.sp_dd.specs.Operations.{everywhere}
 
 -- each width is 1 or the size
-abbrev pub Mentions : List ℕ → List ℕ → Type 0
-Mentions [] [] = Unit {0}
-Mentions [] (s ∷ ss) = ⊥
-Mentions (w ∷ ws) [] = ⊥
-Mentions (w ∷ ws) (s ∷ ss) = (w ≡ 1 ⊎ w ≡ s) × Mentions ws ss
+abbrev pub AreWidthsOf : List ℕ → List ℕ → Type 0
+AreWidthsOf [] [] = Unit {0}
+AreWidthsOf [] (s ∷ ss) = ⊥
+AreWidthsOf (w ∷ ws) [] = ⊥
+AreWidthsOf (w ∷ ws) (s ∷ ss) = (w ≡ 1 ⊎ w ≡ s) × AreWidthsOf ws ss
 
 -- widths of a scope, with fewer than 2^63 points
 pub record AreWidths (s : Shape) (widths : List ℕ) : Type 0 where
   pub scope : IsScope s
-  pub mentions : Mentions widths s.sizes
+  pub mentions : AreWidthsOf widths s.sizes
   pub fits : product widths < 2 ^ 63
 
 -- the value at a point is that where each slot that isn't mentioned has its first value
-abbrev pub Reads : List ℕ → Func → Type 0
-Reads widths f = (x : List ℕ) → IsPointOf f x → value_of f (point_at widths (place widths x)) ≡ value_of f x
+abbrev pub IgnoresUnmentioned : List ℕ → Func → Type 0
+IgnoresUnmentioned widths f = (x : List ℕ) → IsPointOf f x → value_of f (point_at widths (place widths x)) ≡ value_of f x
 
 -- widths of a function's scope that mention all slots on which it depends
 pub record IsFrame (f : Func) (widths : List ℕ) : Type 0 where
   pub scope : IsScope f.shape
-  pub mentions : Mentions widths f.shape.sizes
-  pub reads : Reads widths f
+  pub mentions : AreWidthsOf widths f.shape.sizes
+  pub reads : IgnoresUnmentioned widths f
 
 -- more widths, which mention also the slots on which a function depends
 pub record IsJoin (f : Func) (old new : List ℕ) : Type 0 where
   pub frame : IsFrame f new
-  pub grown : Mentions old new
+  pub grown : AreWidthsOf old new
 
 -- widths of a function's scope that mention all slots on which it depends once one slot has a value
 pub record IsSlotFrame (f : Func) (slot : ℕ) (widths : List ℕ) : Type 0 where
   pub scope : IsScope f.shape
-  pub mentions : Mentions widths f.shape.sizes
+  pub mentions : AreWidthsOf widths f.shape.sizes
   pub reads : (x : List ℕ) → IsPointOf f x → (v : ℕ) → v < size_of f.shape slot → value_of f (slice_set (point_at widths (place widths x)) slot v) ≡ value_of f (slice_set x slot v)
 
 -- widths with 1 for the slots 2i + first of that many state variables
@@ -59,9 +59,9 @@ part_of s parts j = slice_index_or parts j (everywhere s (pos 0))
 -- widths that mention a slot in full, and all slots on which a part depends
 pub record IsPartFrame (s : Shape) (slot : ℕ) (parts : List Func) (widths : List ℕ) : Type 0 where
   pub scope : IsScope s
-  pub mentions : Mentions widths s.sizes
+  pub mentions : AreWidthsOf widths s.sizes
   pub full : slice_index widths slot ≡ size_of s slot
-  pub reads : (j : ℕ) → j < length parts → Reads widths (part_of s parts j)
+  pub reads : (j : ℕ) → j < length parts → IgnoresUnmentioned widths (part_of s parts j)
 
 -- widths of a scope, with fewer than 2^63 points, that mention a slot in full; there is a part of that scope for each value of the slot
 pub record ArePartWidths (s : Shape) (slot : ℕ) (parts : List Func) (widths : List ℕ) : Type 0 where
@@ -75,7 +75,7 @@ pub record Agrees (f g : Func) : Type 0 where
   pub scope : IsScope f.shape
   pub determined : IsFunc f
   pub widths : List ℕ
-  pub mentions : Mentions widths f.shape.sizes
+  pub mentions : AreWidthsOf widths f.shape.sizes
   pub some : 0 < product widths
   pub same : (x : List ℕ) → IsPointOf f x → value_of g (point_at widths (place widths x)) ≡ value_of f x
 

@@ -3,7 +3,7 @@
 ghost use Rattle.std.specs.Prelude.{◌≡◌, ◌<◌, ◌^◌, length, map, max, replicate, IfOk};
 ghost use Rattle.std.specs.List.{zip};
 ghost use Rattle.sp_dd.specs.Points.{product};
-ghost use Rattle.sp_table.specs.Widths.{Mentions, IsFrame, IsJoin, IsSlotFrame};
+ghost use Rattle.sp_table.specs.Widths.{AreWidthsOf, IsFrame, IsJoin, IsSlotFrame};
 
 use crate::Table;
 use crate::places::count_of;
@@ -27,7 +27,7 @@ pub(crate) fn own_widths(alloc: Global, f: &Table) -> Result<Vec<u64>, AllocErro
 
 /// The widths of all slots that the given ones or a function's mention.
 pub(crate) fn joined(alloc: Global, widths: &[u64], f: &Table) -> Result<Vec<u64>, AllocError>
-    requires { Mentions widths.now f.now.shape.sizes }
+    requires { AreWidthsOf widths.now f.now.shape.sizes }
     ensures { IfOk result (λ v. IsJoin f.now widths.now v.items) }
 {
     let widths = greater(alloc, widths, f.widths.as_slice())?;

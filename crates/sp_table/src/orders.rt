@@ -2,7 +2,7 @@
 
 ghost use Rattle.std.specs.Prelude.{◌<◌, length};
 ghost use Rattle.sp_dd.specs.Operations.{IsLeast, IsGreatest};
-ghost use Rattle.sp_table.specs.Cells.{IsLeastOf, IsGreatestOf};
+ghost use Rattle.sp_table.specs.Cells.{IsLeastCell, IsGreatestOf};
 
 use crate::Table;
 
@@ -23,7 +23,7 @@ pub fn greatest(f: &Table) -> i128
 /// The least of some numbers.
 fn least_of(cells: &[i128]) -> i128
     requires { 0 < length cells.now }
-    ensures { IsLeastOf cells.now (length cells.now) result }
+    ensures { IsLeastCell cells.now (length cells.now) result }
 {
     let mut least = cells[0];
     for cell in cells {

@@ -8,7 +8,7 @@ ghost use Rattle.sp_table.specs.Searches.{FirstOf};
 ghost use Rattle.sp_dd.specs.Floors.{floor_div, ticks};
 ghost use Rattle.sp_dd.specs.Points.{product, point_at};
 ghost use Rattle.sp_dd.specs.Func.{Everywhere, size_of, value_of};
-ghost use Rattle.sp_dd.specs.Operations.{everywhere, leaf_chosen, part_chosen, plus, product_floor, IsWhole, IsProductWhole, HasPartialTick, scaled, raised};
+ghost use Rattle.sp_dd.specs.Operations.{everywhere, leaf_chosen, part_chosen, plus, product_floor, IsWholeTick, IsProductWhole, HasPartialTick, scalar_multiple, larger_with};
 ghost use Rattle.sp_table.specs.Widths.{AreWidths};
 
 use crate::Table;
@@ -108,7 +108,7 @@ fn first_partial(f: &Table, g: &Table, widths: &[u64], count: usize) -> Option<u
     requires g { AreWidths g.now.shape widths.now }
     requires small_f { Everywhere f.now (λ v. unsigned_abs v ≤ 2 ^ 62) }
     requires small_g { Everywhere g.now (λ v. unsigned_abs v ≤ 2 ^ 62) }
-    ensures { FirstOf count (λ k. IsWhole (value_of f.now (point_at widths.now k) *ℤ value_of g.now (point_at widths.now k))) (λ k. ¬ IsWhole (value_of f.now (point_at widths.now k) *ℤ value_of g.now (point_at widths.now k))) result }
+    ensures { FirstOf count (λ k. IsWholeTick (value_of f.now (point_at widths.now k) *ℤ value_of g.now (point_at widths.now k))) (λ k. ¬ IsWholeTick (value_of f.now (point_at widths.now k) *ℤ value_of g.now (point_at widths.now k))) result }
 {
     for k in 0..count {
         if !whole_at(f, g, widths, k) {
@@ -124,8 +124,8 @@ fn whole_at(f: &Table, g: &Table, widths: &[u64], k: usize) -> bool
     requires g { AreWidths g.now.shape widths.now }
     requires small_f { Everywhere f.now (λ v. unsigned_abs v ≤ 2 ^ 62) }
     requires small_g { Everywhere g.now (λ v. unsigned_abs v ≤ 2 ^ 62) }
-    ensures yes { OnTrue result (IsWhole (value_of f.now (point_at widths.now k) *ℤ value_of g.now (point_at widths.now k))) }
-    ensures no { OnFalse result (¬ IsWhole (value_of f.now (point_at widths.now k) *ℤ value_of g.now (point_at widths.now k))) }
+    ensures yes { OnTrue result (IsWholeTick (value_of f.now (point_at widths.now k) *ℤ value_of g.now (point_at widths.now k))) }
+    ensures no { OnFalse result (¬ IsWholeTick (value_of f.now (point_at widths.now k) *ℤ value_of g.now (point_at widths.now k))) }
 {
     let a = value_in(f, widths, k);
     let b = value_in(g, widths, k);
@@ -139,7 +139,7 @@ fn whole_at(f: &Table, g: &Table, widths: &[u64], k: usize) -> bool
 /// A function times a whole number.
 pub fn times(alloc: Global, f: &Table, k: i128) -> Result<Table, NoMemory>
     requires { Everywhere f.now (λ v. unsigned_abs (k *ℤ v) ≤ 2 ^ 126) }
-    ensures { IfOk result (λ r. r ≡ scaled f.now k) }
+    ensures { IfOk result (λ r. r ≡ scalar_multiple f.now k) }
 {
     let own_widths = f.widths.as_slice();
     let own_cells = f.cells.as_slice();
@@ -154,7 +154,7 @@ pub fn times(alloc: Global, f: &Table, k: i128) -> Result<Table, NoMemory>
 
 /// The larger of a function and a number.
 pub fn max_with(alloc: Global, f: &Table, least: i128) -> Result<Table, NoMemory>
-    ensures { IfOk result (λ r. r ≡ raised f.now least) }
+    ensures { IfOk result (λ r. r ≡ larger_with f.now least) }
 {
     let own_widths = f.widths.as_slice();
     let own_cells = f.cells.as_slice();

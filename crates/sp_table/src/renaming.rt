@@ -4,7 +4,7 @@ ghost use Rattle.std.specs.Prelude.{◌≡◌, ◌≤◌, ◌<◌, ◌+◌, ◌-
 ghost use Rattle.std.specs.List.{range_with_len};
 ghost use Rattle.sp_dd.specs.Points.{point_at};
 ghost use Rattle.sp_dd.specs.Func.{IsIndependentOf, IsOnPrimed, IsOnUnprimed, value_of};
-ghost use Rattle.sp_dd.specs.Operations.{exchanged, on_diagonal, IsPrimedSlot};
+ghost use Rattle.sp_dd.specs.Operations.{exchange_of_slots, on_diagonal, IsPrimedSlot};
 ghost use Rattle.sp_table.specs.Widths.{AreWidths, IsDiagonalFrame, without_each, exchange_each};
 
 use crate::Table;
@@ -17,7 +17,7 @@ use std::alloc::{AllocError, Global};
 /// A function of unprimed state slots as that of the primed ones.
 pub fn prime(alloc: Global, f: &Table) -> Result<Table, NoMemory>
     requires { IsOnUnprimed f.now }
-    ensures { IfOk result (λ r. r ≡ exchanged f.now) }
+    ensures { IfOk result (λ r. r ≡ exchange_of_slots f.now) }
 {
     renamed(alloc, f, 1)
 }
@@ -25,7 +25,7 @@ pub fn prime(alloc: Global, f: &Table) -> Result<Table, NoMemory>
 /// A function of primed state slots as that of the unprimed ones.
 pub fn unprime(alloc: Global, f: &Table) -> Result<Table, NoMemory>
     requires { IsOnPrimed f.now }
-    ensures { IfOk result (λ r. r ≡ exchanged f.now) }
+    ensures { IfOk result (λ r. r ≡ exchange_of_slots f.now) }
 {
     renamed(alloc, f, 0)
 }
@@ -82,7 +82,7 @@ fn diagonal_values(
 fn renamed(alloc: Global, f: &Table, first: usize) -> Result<Table, NoMemory>
     requires one { first ≤ 1 }
     requires free { (i : ℕ) → i < f.now.shape.variables → IsIndependentOf f.now (2 * i + first) }
-    ensures { IfOk result (λ r. r ≡ exchanged f.now) }
+    ensures { IfOk result (λ r. r ≡ exchange_of_slots f.now) }
 {
     let variables = f.scope().variables() as usize;
     let mut widths = own_widths(alloc, f)?;

@@ -2,10 +2,10 @@
 
 ghost use Rattle.std.specs.Prelude.{◌≡◌, ◌≤◌, ◌<◌, ◌^◌, length, map, slice_set, unsigned_abs, IfOk};
 ghost use Rattle.std.specs.List.{range_with_len};
-ghost use Rattle.sp_dd.specs.Floors.{sum_to, ticks, weighed};
+ghost use Rattle.sp_dd.specs.Floors.{sum_to, ticks, floored_mean};
 ghost use Rattle.sp_dd.specs.Points.{product, point_at};
 ghost use Rattle.sp_dd.specs.Func.{Everywhere, size_of, value_of};
-ghost use Rattle.sp_dd.specs.Operations.{summed_out, weighed_out, IsRow, restricted};
+ghost use Rattle.sp_dd.specs.Operations.{summed_out, weighed_out, IsRow, restriction};
 ghost use Rattle.sp_table.specs.Widths.{AreWidths};
 
 use crate::Table;
@@ -57,7 +57,7 @@ pub fn weigh_out(alloc: Global, f: &Table, slot: u64, p: &Table) -> Result<Table
 pub fn restrict(alloc: Global, f: &Table, slot: u64, value: u64) -> Result<Table, NoMemory>
     requires slot { slot < length f.now.shape.sizes }
     requires value { value < size_of f.now.shape slot }
-    ensures { IfOk result (λ r. r ≡ restricted f.now slot value) }
+    ensures { IfOk result (λ r. r ≡ restriction f.now slot value) }
 {
     let widths = slot_widths(alloc, f, slot)?;
     let to = widths.as_slice();
@@ -122,7 +122,7 @@ fn slot_means(
     requires size_p { size ≡ size_of p.now.shape slot }
     requires small { Everywhere f.now (λ v. unsigned_abs v ≤ 2 ^ 62) }
     requires weights { Everywhere p.now (λ v. unsigned_abs v ≤ ticks) }
-    ensures { IfOk result (λ c. c.items ≡ map (λ k. weighed ticks size (λ v. value_of p.now (slice_set (point_at widths.now k) slot v)) (λ v. value_of f.now (slice_set (point_at widths.now k) slot v))) (range_with_len 0 count)) }
+    ensures { IfOk result (λ c. c.items ≡ map (λ k. floored_mean ticks size (λ v. value_of p.now (slice_set (point_at widths.now k) slot v)) (λ v. value_of f.now (slice_set (point_at widths.now k) slot v))) (range_with_len 0 count)) }
 {
     let mut cells = Vec::with_capacity(alloc, count)?;
     for k in 0..count {
@@ -139,7 +139,7 @@ fn slot_mean(f: &Table, p: &Table, widths: &[u64], k: usize, slot: usize, size: 
     requires size_p { size ≡ size_of p.now.shape slot }
     requires small { Everywhere f.now (λ v. unsigned_abs v ≤ 2 ^ 62) }
     requires weights { Everywhere p.now (λ v. unsigned_abs v ≤ ticks) }
-    ensures { result ≡ weighed ticks size (λ v. value_of p.now (slice_set (point_at widths.now k) slot v)) (λ v. value_of f.now (slice_set (point_at widths.now k) slot v)) }
+    ensures { result ≡ floored_mean ticks size (λ v. value_of p.now (slice_set (point_at widths.now k) slot v)) (λ v. value_of f.now (slice_set (point_at widths.now k) slot v)) }
 {
     let mut sum = 0i128;
     for v in 0..size {

@@ -10,7 +10,7 @@ use Rattle.std.proofs.Math.IntN.{zero-*ℤ, +ℤ_idr}
 use lib.Signed.{≤ℤ_refl}
 use Rattle.sp_theory.specs.Sums.{times, floor, sum_below}
 use Rattle.sp_theory.specs.Points.{IsPoint, count_of, sum_over}
-use Rattle.sp_theory.specs.Draws.{q, Draws, after, IsWhole, chance, mean, weighed, thinned}
+use Rattle.sp_theory.specs.Draws.{q, Draws, after, AreProbabilitiesWhole, chance, mean, floored_expectation, thinned}
 use Rattle.sp_theory.specs.Model.{Vector, Model, IsLawful, least_return, divisions}
 use Rattle.sp_theory.specs.Step.{LinkedVectors, step, expected_reward, expected_links, exact_step}
 use Rattle.sp_theory.specs.Values.{greatest, Weights, leaf_member, Edition, dot, total}
@@ -96,7 +96,7 @@ chance_part (suc k) f x less =
     (λ last. let first = sum_from_zero k f in let same = ap f last in omega (arith, ints))
     (λ past. absurd (omega arith))
 
-pub chance_most : (ks : List ℕ) (d : Draws) (xs : List ℕ) → IsWhole ks d → IsPoint ks xs → chance d xs ≤ q ^ length xs
+pub chance_most : (ks : List ℕ) (d : Draws) (xs : List ℕ) → AreProbabilitiesWhole ks d → IsPoint ks xs → chance d xs ≤ q ^ length xs
 unfolding chance
 chance_most [] d [] whole p = omega (arith, pow-zero q)
 chance_most (k ∷ ks) d (x ∷ xs) whole (less, p) =
@@ -107,7 +107,7 @@ chance_most (k ∷ ks) d (x ∷ xs) whole (less, p) =
 chance_most [] d (x ∷ xs) whole p = absurd p
 chance_most (k ∷ ks) d [] whole p = absurd p
 
-pub thinned_high : (ks : List ℕ) (d : Draws) (xs : List ℕ) (z : ℤ) → IsWhole ks d → IsPoint ks xs → times (chance d xs) z ≤ℤ times (q ^ length xs) (thinned d xs z +ℤ pos (length xs))
+pub thinned_high : (ks : List ℕ) (d : Draws) (xs : List ℕ) (z : ℤ) → AreProbabilitiesWhole ks d → IsPoint ks xs → times (chance d xs) z ≤ℤ times (q ^ length xs) (thinned d xs z +ℤ pos (length xs))
 unfolding thinned chance
 thinned_high [] d [] z whole p = le_same (sym (ap (λ (t : ℕ). times t (z +ℤ pos 0)) (pow-zero q) ∙ ap (times 1) (+ℤ_idr z)))
 thinned_high (k ∷ ks) d (x ∷ xs) z whole (less, p) =
@@ -173,7 +173,7 @@ module _ (m : Model) (lawful : IsLawful m) (w : Weights) (a : ℕ) (known : a < 
     pub estimate_low : (v : Vector) → raised (estimate m w a seen v) ≤ℤ exact_estimate m w a seen v
     unfolding estimate exact_estimate
     estimate_low v =
-        ≤ℤ_trans (le_same (sym (dot-raised (λ s. weighed m.sizes (m.moves a s) (λ next. thinned (m.sights a next) seen (v next))))))
+        ≤ℤ_trans (le_same (sym (dot-raised (λ s. floored_expectation m.sizes (m.moves a s) (λ next. thinned (m.sights a next) seen (v next))))))
         (dot_mono m w _ _ (λ s p. two_low m.sizes (m.moves a s) (length m.sight_sizes) _ _ (λ next n. subst (λ (k : ℕ). times (q ^ k) (thinned (m.sights a next) seen (v next)) ≤ℤ times (chance (m.sights a next) seen) (v next)) (length-point m.sight_sizes seen at) (thinned_low (m.sights a next) seen (v next)))))
 
     pub estimate_high : (v : Vector) → exact_estimate m w a seen v ≤ℤ raised (estimate m w a seen v +ℤ times draws weight)
@@ -183,7 +183,7 @@ module _ (m : Model) (lawful : IsLawful m) (w : Weights) (a : ℕ) (known : a < 
         (le_same (dot-raised (λ s. floored s +ℤ pos draws) ∙ ap raised (dot-add m w floored (λ s. pos draws) ∙ ap (λ (t : ℤ). dot m w floored +ℤ t) (dot-constant m w draws))))
       where
         floored : Vector
-        floored s = weighed m.sizes (m.moves a s) (λ next. thinned (m.sights a next) seen (v next))
+        floored s = floored_expectation m.sizes (m.moves a s) (λ next. thinned (m.sights a next) seen (v next))
 
     module _ (edition : Edition) (some : 0 < length edition) where
       pub link_less : exact_estimate m w a seen (link_at m edition w a seen).vector ≤ℤ exact_estimate m w a seen (exact_link m edition w a seen).vector

@@ -14,7 +14,7 @@ use Rattle.sp_theory.specs.Model.{Model, all_own, IsLawful, HasInitial}
 use Rattle.sp_theory.specs.Values.{Weights}
 use Rattle.sp_theory.specs.Scaling.{total_weight, IsScaled}
 use Rattle.sp_theory.specs.Beliefs.{initial_weights, unscaled_next, next_weights}
-use Rattle.sp_theory.specs.Samples.{IsFirst, Chooser, Sample, first_sample, sample_at, samples, IsNext, AreSamplesOf, total_seen, running_total, whole_total, drawn_observation, sample_after, parent_weights, sampled}
+use Rattle.sp_theory.specs.Samples.{IsFirstSample, Chooser, Sample, first_sample, sample_at, samples, IsNextSample, AreSamplesOf, total_seen, running_total, whole_total, drawn_observation, sample_after, parent_weights, sampled}
 use Rattle.sp_theory.specs.BeliefLaws.{states, observations, DrawnIsSeen, KeepsWeight, LimitsKeepWeight, IsSampled, SampleIsNext, KeepsInitial, AnswersBelow, SamplesAreNext}
 use Rattle.sp_theory.specs.Agreement.{NextAgree}
 use Rattle.sp_theory.proofs.Unseen.{pos-sum_by, something_seen}
@@ -131,7 +131,7 @@ module _ {S : Type 0} (m : Model) (lawful : IsLawful m) (initial : HasInitial m)
   unfolding sampled
   sampled_next k = sample_next m lawful keeps _ (parent_scaled k _ (sampled_scaled k)) _ (answers (sampled m chooser depth words k).1 (k % depth) m.actions _ lawful.some_action) _
 
-  opening_first : IsFirst m (sampled m chooser depth words 0).0
+  opening_first : IsFirstSample m (sampled m chooser depth words 0).0
   unfolding sampled
   opening_first = record { action = refl; observation = refl; weights = λ s at. refl }
 
@@ -142,16 +142,16 @@ module _ {S : Type 0} (m : Model) (lawful : IsLawful m) (initial : HasInitial m)
   some_agree : (o : Option Weights) (w : Weights) → o ≡ Some w → NextAgree m o (Some w)
   some_agree o w is = subst (λ (x : Option Weights). NextAgree m x (Some w)) (sym is) (λ s at. refl)
 
-  is_next : (parent : Weights) (x : Sample) → IsSampled m parent x → IsNext m parent x
+  is_next : (parent : Weights) (x : Sample) → IsSampled m parent x → IsNextSample m parent x
   is_next parent x is = record { known = is.known; seen = is.seen; next = some_agree _ x.weights is.next }
 
   are_samples : (count : ℕ) → AreSamplesOf m depth (samples m chooser depth words count)
   are_samples count = record {
-    first = λ some. subst (IsFirst m) (sym (sample_is count 0 (less_of some))) opening_first;
+    first = λ some. subst (IsFirstSample m) (sym (sample_is count 0 (less_of some))) opening_first;
     later = λ k less.
         let within = suc_less k less in
-        subst (λ (x : Sample). IsNext m (parent_weights m depth k x.weights) (sample_at m (samples m chooser depth words count) (suc k))) (sym (sample_is count k (omega (arith, within))))
-        (subst (IsNext m (parent_weights m depth k (sampled m chooser depth words k).0.weights)) (sym (sample_is count (suc k) within)) (is_next _ _ (sampled_next k)));
+        subst (λ (x : Sample). IsNextSample m (parent_weights m depth k x.weights) (sample_at m (samples m chooser depth words count) (suc k))) (sym (sample_is count k (omega (arith, within))))
+        (subst (IsNextSample m (parent_weights m depth k (sampled m chooser depth words k).0.weights)) (sym (sample_is count (suc k) within)) (is_next _ _ (sampled_next k)));
   }
     where
       less_of : 0 < length (samples m chooser depth words count) → 0 < count

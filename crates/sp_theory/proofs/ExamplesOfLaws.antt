@@ -4,11 +4,11 @@ use Rattle.std.specs.Prelude.{pos}
 use Rattle.std.proofs.lemmas.List.Elements.{All-cons, All-nil}
 use Rattle.sp_theory.specs.Sums.{sum_below}
 use Rattle.sp_theory.specs.Points.{IsPoint}
-use Rattle.sp_theory.specs.Draws.{q, IsWhole}
+use Rattle.sp_theory.specs.Draws.{q, AreProbabilitiesWhole}
 use Rattle.sp_theory.specs.Model.{State, Factor, IsLawful, HasInitial, DependsOnOwn, sum_over_own}
 use Rattle.sp_theory.specs.ExampleModels.{tiger, tiger_moves, tiger_sights}
 
-moves_whole : (a : ℕ) (s : State) → a < 3 → IsPoint (2 ∷ []) s → IsWhole (2 ∷ []) (tiger_moves a s)
+moves_whole : (a : ℕ) (s : State) → a < 3 → IsPoint (2 ∷ []) s → AreProbabilitiesWhole (2 ∷ []) (tiger_moves a s)
 unfolding sum_below q
 moves_whole zero (zero ∷ []) known at = (refl, λ x less. tt)
 moves_whole zero (suc zero ∷ []) known at = (refl, λ x less. tt)
@@ -19,7 +19,7 @@ moves_whole zero (suc (suc x) ∷ []) known at = absurd (let less = at.0 in omeg
 moves_whole a [] known at = absurd at
 moves_whole a (x ∷ y ∷ s) known at = absurd at.1
 
-sights_whole : (a : ℕ) (next : State) → a < 3 → IsPoint (2 ∷ []) next → IsWhole (2 ∷ []) (tiger_sights 850000000 150000000 a next)
+sights_whole : (a : ℕ) (next : State) → a < 3 → IsPoint (2 ∷ []) next → AreProbabilitiesWhole (2 ∷ []) (tiger_sights 850000000 150000000 a next)
 unfolding sum_below q
 sights_whole zero (zero ∷ []) known at = (refl, λ x less. tt)
 sights_whole zero (suc zero ∷ []) known at = (refl, λ x less. tt)

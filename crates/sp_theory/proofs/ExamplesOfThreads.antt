@@ -3,7 +3,7 @@ use Rattle.std.proofs.Common.{◌≡◌, [], ◌∷◌, refl, false, true, get_o
 use Rattle.std.specs.Prelude.{pos}
 use Rattle.sp_theory.specs.Sums.{sum_below, least_below, holds_below}
 use Rattle.sp_theory.specs.Points.{point_of, sum_over, least_over, holds_over}
-use Rattle.sp_theory.specs.Draws.{q, weighed, thinned}
+use Rattle.sp_theory.specs.Draws.{q, floored_expectation, thinned}
 use Rattle.sp_theory.specs.Model.{least_reward, least_return, ignores_next}
 use Rattle.sp_theory.specs.Step.{step}
 use Rattle.sp_theory.specs.Plan.{leaf, record_at, link_of}
@@ -31,7 +31,7 @@ abbrev task : Task
 task = record { model = tiger; beliefs = 1; samples = λ k s. 2305843009213693952; stages = 2 }
 
 tiger_alone : one_thread task false (opening task) (λ k. false) (7 ∷ 8 ∷ 9 ∷ []) ≡ settle 0 0 0 (0 ∷ 0 ∷ []) ∷ publish ∷ settle 0 1 0 (1 ∷ 1 ∷ []) ∷ publish ∷ end ∷ []
-unfolding one_thread turn due_events marks_after settled_at picked open_beliefs all_improved replay after_event opening entering entered value greatest_member choice links_at greatest greatest_from candidate link_at estimate thinned dot tiger leaf leaf_member record_at link_of step ignores_next least_return least_reward least_over least_below weighed sum_below sum_over holds_over holds_below point_of q
+unfolding one_thread turn due_events marks_after settled_at picked open_beliefs all_improved replay after_event opening entering entered value greatest_member choice links_at greatest greatest_from candidate link_at estimate thinned dot tiger leaf leaf_member record_at link_of step ignores_next least_return least_reward least_over least_below floored_expectation sum_below sum_over holds_over holds_below point_of q
 tiger_alone = refl
 
 -- two stages at two beliefs, with pruning: the tiger is left for sure at one, right for sure at the other. One backup improves both beliefs in the first stage,
@@ -42,5 +42,5 @@ known_doors = record { model = tiger; beliefs = 2; samples = λ k s. cond (eqb k
 both_doors :
     one_thread known_doors true (opening known_doors) (λ k. false) (1 ∷ 0 ∷ 0 ∷ [])
     ≡ settle 1 0 1 (0 ∷ 0 ∷ []) ∷ publish ∷ settle 0 1 2 (1 ∷ 1 ∷ []) ∷ settle 1 1 0 (1 ∷ 1 ∷ []) ∷ publish ∷ end ∷ []
-unfolding one_thread turn due_events pruning_events dominated yields nowhere_above least_id applying marks_after settled_at picked open_beliefs all_improved replay after_event opening entering entered value greatest_member choice links_at greatest greatest_from candidate link_at estimate thinned dot tiger leaf leaf_member record_at link_of step ignores_next least_return least_reward least_over least_below weighed sum_below sum_over holds_over holds_below point_of q
+unfolding one_thread turn due_events pruning_events dominated yields nowhere_above least_id applying marks_after settled_at picked open_beliefs all_improved replay after_event opening entering entered value greatest_member choice links_at greatest greatest_from candidate link_at estimate thinned dot tiger leaf leaf_member record_at link_of step ignores_next least_return least_reward least_over least_below floored_expectation sum_below sum_over holds_over holds_below point_of q
 both_doors = refl

@@ -6,11 +6,11 @@ use Rattle.sp_theory.specs.Points.{point_of}
 use Rattle.sp_theory.specs.Draws.{thinned}
 use Rattle.sp_theory.specs.Model.{Model}
 use Rattle.sp_theory.specs.Values.{Weights, Edition}
-use Rattle.sp_theory.specs.Scaling.{total_weight, greatest_power, scaled}
+use Rattle.sp_theory.specs.Scaling.{total_weight, greatest_power, scaled_weights}
 use Rattle.sp_theory.specs.Beliefs.{moved, tables_of, first_state, unscaled_next, next_weights}
 use Rattle.sp_theory.specs.Agreement.{WeightsAgree, EditionsAgree, NextAgree, AllAgree}
-use Rattle.sp_theory.specs.Logs.{Entry, told, act, observe, unseen, closing, Session, Published, opening_session, all_of, seen_by, IsAnswer, observed, MayEnter, after_entry, IsLog, session_after}
-use Rattle.sp_theory.specs.SessionLaws.{SessionsAgree, ServesFor, AllTold, LegalLogsAgree, SeenLogsAreOfRuns, named, IsRising, LogsNeverGoBack, ClosesOnce, LegalLogsCloseOnce}
+use Rattle.sp_theory.specs.Logs.{Entry, told, act, observe, unseen, closing, Session, Published, opening_session, all_of, seen_by, IsAnswer, weights_after_observation, MayEnter, after_entry, IsLog, session_after}
+use Rattle.sp_theory.specs.SessionLaws.{SessionsAgree, ServesFor, AllTold, LegalLogsAgree, SeenLogsAreOfRuns, numbers_of_editions, AreNumbersRising, LogsNeverGoBack, ClosesOnce, LegalLogsCloseOnce}
 use Rattle.sp_theory.proofs.Agreement.{dot_same, greatest_member_agrees}
 use Rattle.sp_theory.proofs.Carried.{carried_same}
 use Rattle.sp_theory.proofs.Updates.{first_state_point}
@@ -23,13 +23,13 @@ unscaled_agrees m v w a seen agree next p = ap (λ (z : ℤ). unsigned_abs (thin
 pub total_weight_same : (m : Model) (v w : Weights) → WeightsAgree m v w → total_weight m v ≡ total_weight m w
 total_weight_same m v w agree = ap unsigned_abs (dot_same m v w (λ s. pos 1) (λ s. pos 1) agree (λ s p. refl))
 
-pub scaled_agrees : (m : Model) (v w : Weights) → WeightsAgree m v w → WeightsAgree m (scaled m v) (scaled m w)
-unfolding scaled
+pub scaled_agrees : (m : Model) (v w : Weights) → WeightsAgree m v w → WeightsAgree m (scaled_weights m v) (scaled_weights m w)
+unfolding scaled_weights
 scaled_agrees m v w agree s p = λ h. agree s p h * greatest_power 62 (total_weight_same m v w agree h)
 
 pub next_agrees : (m : Model) (v w : Weights) (a : ℕ) (seen : List ℕ) → WeightsAgree m v w → NextAgree m (next_weights m v a seen) (next_weights m w a seen)
 unfolding next_weights
-next_agrees m v w a seen agree = subst (λ (n : ℕ). NextAgree m (cond (eqb (total_weight m x) 0) None (Some (scaled m x))) (cond (eqb n 0) None (Some (scaled m y)))) (total_weight_same m x y both) (by_test (eqb (total_weight m x) 0))
+next_agrees m v w a seen agree = subst (λ (n : ℕ). NextAgree m (cond (eqb (total_weight m x) 0) None (Some (scaled_weights m x))) (cond (eqb n 0) None (Some (scaled_weights m y)))) (total_weight_same m x y both) (by_test (eqb (total_weight m x) 0))
   where
     x : Weights
     x = unscaled_next m v a seen
@@ -40,7 +40,7 @@ next_agrees m v w a seen agree = subst (λ (n : ℕ). NextAgree m (cond (eqb (to
     both : WeightsAgree m x y
     both = unscaled_agrees m v w a seen agree
 
-    by_test : (b : Bool) → NextAgree m (cond b None (Some (scaled m x))) (cond b None (Some (scaled m y)))
+    by_test : (b : Bool) → NextAgree m (cond b None (Some (scaled_weights m x))) (cond b None (Some (scaled_weights m y)))
     by_test true = tt
     by_test false = scaled_agrees m x y both
 
@@ -58,8 +58,8 @@ unwrap_agrees m None (Some x) v w h agree = absurd h
 unwrap_agrees m (Some x) None v w h agree = absurd h
 
 module _ (m : Model) (s t : Session) (agree : SessionsAgree m s t) where
-  observed_agrees : (o : ℕ) → NextAgree m (observed m s o) (observed m t o)
-  observed_agrees o = subst (λ (acted : Option ℕ). NextAgree m (observed m s o) (option_and_then (λ a. next_weights m t.weights a (point_of m.sight_sizes o)) acted)) agree.acted (by_acted s.acted)
+  observed_agrees : (o : ℕ) → NextAgree m (weights_after_observation m s o) (weights_after_observation m t o)
+  observed_agrees o = subst (λ (acted : Option ℕ). NextAgree m (weights_after_observation m s o) (option_and_then (λ a. next_weights m t.weights a (point_of m.sight_sizes o)) acted)) agree.acted (by_acted s.acted)
     where
       by_acted : (acted : Option ℕ) → NextAgree m (option_and_then (λ a. next_weights m s.weights a (point_of m.sight_sizes o)) acted) (option_and_then (λ a. next_weights m t.weights a (point_of m.sight_sizes o)) acted)
       by_acted None = tt
@@ -69,7 +69,7 @@ module _ (m : Model) (s t : Session) (agree : SessionsAgree m s t) where
   unfolding after_entry
   after_entry_agrees (told e) = record { weights = agree.weights; newest = refl; acted = agree.acted; closed = agree.closed }
   after_entry_agrees (act e id action) = record { weights = agree.weights; newest = refl; acted = refl; closed = agree.closed }
-  after_entry_agrees (observe o) = record { weights = unwrap_agrees m (observed m s o) (observed m t o) s.weights t.weights (observed_agrees o) agree.weights; newest = agree.newest; acted = refl; closed = agree.closed }
+  after_entry_agrees (observe o) = record { weights = unwrap_agrees m (weights_after_observation m s o) (weights_after_observation m t o) s.weights t.weights (observed_agrees o) agree.weights; newest = agree.newest; acted = refl; closed = agree.closed }
   after_entry_agrees (unseen o) = agree
   after_entry_agrees (closing e id action) = record { weights = agree.weights; newest = refl; acted = agree.acted; closed = refl }
 
@@ -156,7 +156,7 @@ pub seen_logs_are_of_runs : SeenLogsAreOfRuns
 seen_logs_are_of_runs m editions shelf are s xs known log = log_too m (both_tell (seen_by shelf) (all_of editions)) (all_of editions) (record { has = are; may_tell = λ e both. both.1; is_last = λ e last. absurd last }) s s (session_same m s) xs (log_told m (seen_by shelf) (all_of editions) s xs known log)
 
 -- ---- the editions that are named
-rising : (m : Model) (published : Published) (s : Session) (xs : List Entry) → IsLog m published s xs → IsRising s.newest (named xs)
+rising : (m : Model) (published : Published) (s : Session) (xs : List Entry) → IsLog m published s xs → AreNumbersRising s.newest (numbers_of_editions xs)
 unfolding IsLog MayEnter after_entry
 rising m published s [] h = tt
 rising m published s (told e ∷ xs) (here, rest) = (here.1, rising m published (after_entry m s (told e)) xs rest)

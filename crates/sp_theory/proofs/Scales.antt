@@ -13,7 +13,7 @@ use Rattle.sp_theory.specs.Points.{IsPoint}
 use Rattle.sp_theory.specs.Draws.{q, chance}
 use Rattle.sp_theory.specs.Model.{Model, State}
 use Rattle.sp_theory.specs.Values.{Weights}
-use Rattle.sp_theory.specs.Scaling.{total_weight, IsScaled, greatest_power, scaled}
+use Rattle.sp_theory.specs.Scaling.{total_weight, IsScaled, greatest_power, scaled_weights}
 use Rattle.sp_theory.specs.Beliefs.{unscaled_next, next_weights, exact_next}
 use Rattle.sp_theory.specs.BeliefLaws.{variables, ScalingGivesScale, UpdateGainsNothing, NextIsScaled}
 use Rattle.sp_theory.proofs.Whole.{times-times, times_cancel_le, ≤ℤ_trans}
@@ -69,9 +69,9 @@ greatest_power_is (suc k) n j within low high = by_test (leb (n * 2 ^ suc k) (2 
     by_test false e (inr not_less) rest = absurd (let past = leb-false _ _ e in let same = ap (λ (i : ℕ). n * 2 ^ i) (last j within not_less) in omega (arith, past, low, same))
 
 -- ---- scaling
-pub total_weight-scaled : (m : Model) (w : Weights) → total_weight m (scaled m w) ≡ total_weight m w * greatest_power 62 (total_weight m w)
-unfolding scaled
-total_weight-scaled m w = same _ _ (pos-total_weight m (scaled m w) ∙ sum_over_same m.sizes _ _ (λ s p. turned (w s) power) ∙ sum_over-times m.sizes power (λ s. pos (w s)) ∙ ap (times power) (sym (pos-total_weight m w)) ∙ sym (turned (total_weight m w) power))
+pub total_weight-scaled : (m : Model) (w : Weights) → total_weight m (scaled_weights m w) ≡ total_weight m w * greatest_power 62 (total_weight m w)
+unfolding scaled_weights
+total_weight-scaled m w = same _ _ (pos-total_weight m (scaled_weights m w) ∙ sum_over_same m.sizes _ _ (λ s p. turned (w s) power) ∙ sum_over-times m.sizes power (λ s. pos (w s)) ∙ ap (times power) (sym (pos-total_weight m w)) ∙ sym (turned (total_weight m w) power))
   where
     power : ℕ
     power = greatest_power 62 (total_weight m w)
@@ -128,7 +128,7 @@ next_scaled m lawful w scale a known seen sighted v = by_test (eqb weight 0) (eq
     few : weight ≤ 2 ^ 62
     few = let less = gains_nothing m lawful w a known seen sighted in omega (arith, less, scale.within)
 
-    by_test : (b : Bool) → ((eqb weight 0 ≡ true) × (weight ≡ 0)) ⊎ ((eqb weight 0 ≡ false) × (weight ≢ 0)) → eqb weight 0 ≡ b → cond b None (Some (scaled m (unscaled_next m w a seen))) ≡ Some v → IsScaled m v
+    by_test : (b : Bool) → ((eqb weight 0 ≡ true) × (weight ≡ 0)) ⊎ ((eqb weight 0 ≡ false) × (weight ≢ 0)) → eqb weight 0 ≡ b → cond b None (Some (scaled_weights m (unscaled_next m w a seen))) ≡ Some v → IsScaled m v
     by_test true told f e = absurd (cc)
     by_test false (inl (is, none)) f e = absurd (cc)
     by_test false (inr (is, more)) f e = subst (IsScaled m) (some_same e) (scaling_gives m (unscaled_next m w a seen) (omega (arith, more)) few)

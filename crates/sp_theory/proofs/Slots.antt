@@ -2,16 +2,16 @@
 use Rattle.std.proofs.Common.{◌≡◌, List, [], ◌∷◌, refl, ap}
 use Rattle.std.specs.Prelude.{ℤ}
 use Rattle.sp_theory.specs.Sums.{times, floor}
-use Rattle.sp_theory.specs.Draws.{q, IsWhole, weighed}
+use Rattle.sp_theory.specs.Draws.{q, AreProbabilitiesWhole, floored_expectation}
 use Rattle.sp_theory.specs.Slots.{Slot, sizes_of, draws_of, point_with, slots_weighed, AreRows}
 use Rattle.sp_theory.proofs.Whole.{sum_below_same}
 
-pub slots_weighed-draws_of : {P : Type 0} (vs : List (Slot P)) (f : P → ℤ) (p : P) → slots_weighed vs f p ≡ weighed (sizes_of vs) (draws_of vs p) (λ xs. f (point_with vs p xs))
-unfolding slots_weighed weighed draws_of point_with
+pub slots_weighed-draws_of : {P : Type 0} (vs : List (Slot P)) (f : P → ℤ) (p : P) → slots_weighed vs f p ≡ floored_expectation (sizes_of vs) (draws_of vs p) (λ xs. f (point_with vs p xs))
+unfolding slots_weighed floored_expectation draws_of point_with
 slots_weighed-draws_of [] f p = refl
 slots_weighed-draws_of (v ∷ vs) f p = ap (λ (z : ℤ). floor z q) (sum_below_same v.size _ _ (λ x less. ap (times (v.chance (v.put p x))) (slots_weighed-draws_of vs f (v.put p x))))
 
-pub AreRows-whole : {P : Type 0} (Q : P → Type 0) (vs : List (Slot P)) (p : P) → AreRows Q vs → Q p → IsWhole (sizes_of vs) (draws_of vs p)
+pub AreRows-whole : {P : Type 0} (Q : P → Type 0) (vs : List (Slot P)) (p : P) → AreRows Q vs → Q p → AreProbabilitiesWhole (sizes_of vs) (draws_of vs p)
 unfolding draws_of
 AreRows-whole Q [] p rows holds = tt
 AreRows-whole Q (v ∷ vs) p (sums, kept, rest) holds = (sums p holds, λ x less. AreRows-whole Q vs (v.put p x) rest (kept p x holds less))

@@ -16,7 +16,7 @@ use Rattle.sp_theory.specs.Values.{Weights, Member, leaf_member, Edition, dot, g
 use Rattle.sp_theory.specs.Backup.{link_at, choice, IsBackup}
 use Rattle.sp_theory.specs.Book.{Task, Book, Event, settle, publish, prune, end, opening, IsMember, editions, settled_record, settled_member, entering, entered, pruned, Allowed, after_event}
 use Rattle.sp_theory.specs.Runs.{IsHistory, replay}
-use Rattle.sp_theory.specs.Laws.{Rises}
+use Rattle.sp_theory.specs.Laws.{ValuesRise}
 use Rattle.sp_theory.proofs.Whole.{≤ℤ_trans}
 use Rattle.sp_theory.proofs.Order.{by_order}
 use Rattle.sp_theory.proofs.Weighing.{le_same}
@@ -32,7 +32,7 @@ pub record IsKept (t : Task) (b : Book) : Type 0 where
   pub members : All (All (IsMember t.model b.records)) (editions b)
   pub grown_members : All (IsMember t.model b.records) b.grown
   pub reaches : (k : ℕ) → k < t.beliefs → b.improved k ≡ true → Reaches t.model b.grown (t.samples k) (value t.model b.latest (t.samples k))
-  pub rising : AllPairs (Rises t) (editions b)
+  pub rising : AllPairs (ValuesRise t) (editions b)
 
 -- ---- what enters
 pub reaches_more : (m : Model) (edition : Edition) (x : Member) (w : Weights) (z : ℤ) → Reaches m edition w z → Reaches m (edition ++ x ∷ []) w z
@@ -120,9 +120,9 @@ unfolding leaf_member
 leaf_is_member t b sound = (sound.some, (λ h s. sym (sound.values.leaf_vector s) h), sym sound.plan.leaf_action)
 
 -- each edition rises to the last
-to_last : (t : Task) (xs : List Edition) (y : Edition) → AllPairs (Rises t) (xs ++ y ∷ []) → (i : ℕ) (d : Edition) → i < length (xs ++ y ∷ []) → Rises t (get_or (xs ++ y ∷ []) i d) y
+to_last : (t : Task) (xs : List Edition) (y : Edition) → AllPairs (ValuesRise t) (xs ++ y ∷ []) → (i : ℕ) (d : Edition) → i < length (xs ++ y ∷ []) → ValuesRise t (get_or (xs ++ y ∷ []) i d) y
 to_last t xs y rising i d less =
-    by_order i (length xs) (λ before. subst (Rises t (get_or (xs ++ y ∷ []) i d)) (get_or-append_seam xs y [] d) (rising i (length xs) d before (omega (arith, length-append xs (y ∷ [])))))
+    by_order i (length xs) (λ before. subst (ValuesRise t (get_or (xs ++ y ∷ []) i d)) (get_or-append_seam xs y [] d) (rising i (length xs) d before (omega (arith, length-append xs (y ∷ [])))))
     (λ last k within. le_same (ap (λ (x : Edition). value t.model x (t.samples k)) (ap (λ (n : ℕ). get_or (xs ++ y ∷ []) n d) last ∙ get_or-append_seam xs y [] d)))
     (λ past. absurd (omega (arith, length-append xs (y ∷ []))))
 
@@ -139,7 +139,7 @@ sound_after t lawful b publish sound (going, all) = record {
   members = All-push (All (IsMember t.model b.records)) (editions b) b.grown sound.members sound.grown_members;
   grown_members = All-nil (IsMember t.model b.records);
   reaches = λ k within up. absurd (cc);
-  rising = all_pairs_push (Rises t) (editions b) b.grown sound.rising
+  rising = all_pairs_push (ValuesRise t) (editions b) b.grown sound.rising
       (λ i d less k within. ≤ℤ_trans (to_last t b.earlier b.latest sound.rising i d less k within) (reached_value t.model b.grown (t.samples k) _ (sound.reaches k within (all k within))));
 }
 sound_after t lawful b (prune pairs) sound (going, some, can) = record {
@@ -149,7 +149,7 @@ sound_after t lawful b (prune pairs) sound (going, some, can) = record {
   members = All-push (All (IsMember t.model b.records)) (editions b) (pruned b.latest pairs) sound.members (pruned_members (IsMember t.model b.records) b.latest pairs (latest_members t b sound));
   grown_members = sound.grown_members;
   reaches = λ k within up. reaches_lower t.model b.grown (t.samples k) _ _ (value_pruned t.model (t.samples k) b.latest pairs can).1 (sound.reaches k within up);
-  rising = all_pairs_push (Rises t) (editions b) (pruned b.latest pairs) sound.rising
+  rising = all_pairs_push (ValuesRise t) (editions b) (pruned b.latest pairs) sound.rising
       (λ i d less k within. ≤ℤ_trans (to_last t b.earlier b.latest sound.rising i d less k within) (value_pruned t.model (t.samples k) b.latest pairs can).0);
 }
 sound_after t lawful b end sound (going, none) = record { some = sound.some; plan = sound.plan; values = sound.values; members = sound.members; grown_members = sound.grown_members; reaches = sound.reaches; rising = sound.rising }

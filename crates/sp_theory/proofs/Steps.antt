@@ -7,9 +7,9 @@ use Rattle.std.proofs.lemmas.Nat.{pow-add}
 use Rattle.std.proofs.Math.Nat.{mul-le-mul_right, pow-suc, pow-zero, one-mul}
 use Rattle.sp_theory.specs.Sums.{times, floor}
 use Rattle.sp_theory.specs.Points.{IsPoint}
-use Rattle.sp_theory.specs.Draws.{q, IsWhole, mean, weighed}
+use Rattle.sp_theory.specs.Draws.{q, AreProbabilitiesWhole, mean, floored_expectation}
 use Rattle.sp_theory.specs.Model.{Model, State, IsLawful, least_return, top, ignores_next, divisions}
-use Rattle.sp_theory.specs.Step.{LinkedVectors, linked, discounted, step, expected_reward, expected_links, exact_step}
+use Rattle.sp_theory.specs.Step.{LinkedVectors, value_of_links, discounted_value, step, expected_reward, expected_links, exact_step}
 use Rattle.sp_theory.proofs.Whole.{times-add, times-times, times_mono, floor_below, floor_above, ≤ℤ_trans, times_cancel_le}
 use Rattle.sp_theory.proofs.Order.{max_case, int_max_left, int_max_right, add_left_mono, add_right_mono}
 use Rattle.sp_theory.proofs.Weighing.{q_pos, le_same, times-swap, mean_same, mean_mono, mean-times, mean-add, mean-constant, weighed_low, weighed_high, weighed_same, weighed_to, two_low, two_high}
@@ -120,7 +120,7 @@ module _ (m : Model) (lawful : IsLawful m) (a : ℕ) (known : a < m.actions) (s 
   small : m.discount ≤ q
   small = omega (arith, lawful.discounts)
 
-  moved : IsWhole m.sizes (m.moves a s)
+  moved : AreProbabilitiesWhole m.sizes (m.moves a s)
   moved = lawful.moves_whole a s known at
 
   -- where each link is worth the least return, the exact step is worth at least that
@@ -140,15 +140,15 @@ module _ (m : Model) (lawful : IsLawful m) (a : ℕ) (known : a < m.actions) (s 
   module _ (links : LinkedVectors) where
     -- the two cases of the floored step before the least return is put under them
     late : ℤ
-    late = m.reward a s s +ℤ discounted m (weighed m.sizes (m.moves a s) (linked m a links))
+    late = m.reward a s s +ℤ discounted_value m (floored_expectation m.sizes (m.moves a s) (value_of_links m a links))
 
     early : ℤ
-    early = weighed m.sizes (m.moves a s) (λ next. m.reward a s next +ℤ discounted m (linked m a links next))
+    early = floored_expectation m.sizes (m.moves a s) (λ next. m.reward a s next +ℤ discounted_value m (value_of_links m a links next))
 
-    linked_low : times (q ^ l) (times (q ^ length m.sizes) (weighed m.sizes (m.moves a s) (linked m a links))) ≤ℤ expected_links m a links s
+    linked_low : times (q ^ l) (times (q ^ length m.sizes) (floored_expectation m.sizes (m.moves a s) (value_of_links m a links))) ≤ℤ expected_links m a links s
     linked_low = two_low m.sizes (m.moves a s) l _ _ (λ next n. weighed_low m.sight_sizes (m.sights a next) (λ seen. links seen next))
 
-    linked_high : expected_links m a links s ≤ℤ times (q ^ l) (times (q ^ length m.sizes) (weighed m.sizes (m.moves a s) (linked m a links) +ℤ pos (length m.sizes + l)))
+    linked_high : expected_links m a links s ≤ℤ times (q ^ l) (times (q ^ length m.sizes) (floored_expectation m.sizes (m.moves a s) (value_of_links m a links) +ℤ pos (length m.sizes + l)))
     linked_high = two_high m.sizes (m.moves a s) l _ _ moved (λ next n. weighed_high m.sight_sizes (m.sights a next) (λ seen. links seen next) (lawful.sights_whole a next known n))
 
     -- a reward that ignores the next state is expected exactly
@@ -202,14 +202,14 @@ module _ (m : Model) (lawful : IsLawful m) (a : ℕ) (known : a < m.actions) (s 
     unfolding step late early
     step_to to = max_case (λ z. z ≤ℤ top m) (least_return m) _ (least_return-le-top m lawful) (by_test (ignores_next m a))
       where
-        gained : (r out : ℤ) → (times q r +ℤ times m.discount (top m)) ≤ℤ times q (top m) → out ≤ℤ top m → (r +ℤ discounted m out) ≤ℤ top m
+        gained : (r out : ℤ) → (times q r +ℤ times m.discount (top m)) ≤ℤ times q (top m) → out ≤ℤ top m → (r +ℤ discounted_value m out) ≤ℤ top m
         gained r out high below = times_cancel_le q _ (top m) q_pos
             (let parts = times-add q r (floor (times m.discount out) q) in
             let low = floor_below (times m.discount out) q q_pos in
             let more = times_mono m.discount out (top m) below in
             omega (arith, ints, parts, low, more, high))
 
-        linked_to : (next : List ℕ) → IsPoint m.sizes next → linked m a links next ≤ℤ top m
+        linked_to : (next : List ℕ) → IsPoint m.sizes next → value_of_links m a links next ≤ℤ top m
         linked_to next n = weighed_to m.sight_sizes (m.sights a next) _ (top m) (lawful.sights_whole a next known n) (λ seen o. to seen next o n)
 
         by_test : (b : Bool) → cond b late early ≤ℤ top m
@@ -225,8 +225,8 @@ step_from m a links s = int_max_left (least_return m) _
 pub step_same : (m : Model) (a : ℕ) (f g : LinkedVectors) (s : State) → ((seen next : List ℕ) → IsPoint m.sight_sizes seen → IsPoint m.sizes next → f seen next ≡ g seen next) → step m a f s ≡ step m a g s
 unfolding step
 step_same m a f g s h = λ k. int_max (least_return m) (cond (ignores_next m a)
-    (m.reward a s s +ℤ discounted m (weighed_same m.sizes (m.moves a s) _ _ same k))
-    (weighed_same m.sizes (m.moves a s) _ _ (λ next n. ap (λ (z : ℤ). m.reward a s next +ℤ discounted m z) (same next n)) k))
+    (m.reward a s s +ℤ discounted_value m (weighed_same m.sizes (m.moves a s) _ _ same k))
+    (weighed_same m.sizes (m.moves a s) _ _ (λ next n. ap (λ (z : ℤ). m.reward a s next +ℤ discounted_value m z) (same next n)) k))
   where
-    same : (next : List ℕ) → IsPoint m.sizes next → linked m a f next ≡ linked m a g next
+    same : (next : List ℕ) → IsPoint m.sizes next → value_of_links m a f next ≡ value_of_links m a g next
     same next n = weighed_same m.sight_sizes (m.sights a next) _ _ (λ seen o. h seen next o n)

@@ -11,7 +11,7 @@ use Rattle.sp_theory.specs.Points.{IsPoint, point_of, sum_over}
 use Rattle.sp_theory.specs.Draws.{q, chance}
 use Rattle.sp_theory.specs.Model.{Model, State, IsLawful}
 use Rattle.sp_theory.specs.Values.{Weights, dot, total}
-use Rattle.sp_theory.specs.Scaling.{total_weight, scaled}
+use Rattle.sp_theory.specs.Scaling.{total_weight, scaled_weights}
 use Rattle.sp_theory.specs.Beliefs.{moved, unscaled_next, next_weights, exact_next}
 use Rattle.sp_theory.specs.Samples.{total_seen, whole_total}
 use Rattle.sp_theory.specs.BeliefLaws.{variables, states, observations, RuledOutIsUnseen, UnseenIsSlight, SomethingIsSeen}
@@ -39,13 +39,13 @@ power_pos n = one-le-pow n q q_pos
 -- ---- unseen
 unseen_where : (m : Model) (w : Weights) (a : ℕ) (seen : List ℕ) → total_weight m (unscaled_next m w a seen) ≡ 0 → next_weights m w a seen ≡ None
 unfolding next_weights
-unseen_where m w a seen e = ap (λ (n : ℕ). cond (eqb n 0) None (Some (scaled m (unscaled_next m w a seen)))) e
+unseen_where m w a seen e = ap (λ (n : ℕ). cond (eqb n 0) None (Some (scaled_weights m (unscaled_next m w a seen)))) e
 
 pub unseen_only : (m : Model) (w : Weights) (a : ℕ) (seen : List ℕ) → next_weights m w a seen ≡ None → total_weight m (unscaled_next m w a seen) ≡ 0
 unfolding next_weights
 unseen_only m w a seen = by_test (eqb (total_weight m (unscaled_next m w a seen)) 0) refl
   where
-    by_test : (b : Bool) → eqb (total_weight m (unscaled_next m w a seen)) 0 ≡ b → cond b None (Some (scaled m (unscaled_next m w a seen))) ≡ None → total_weight m (unscaled_next m w a seen) ≡ 0
+    by_test : (b : Bool) → eqb (total_weight m (unscaled_next m w a seen)) 0 ≡ b → cond b None (Some (scaled_weights m (unscaled_next m w a seen))) ≡ None → total_weight m (unscaled_next m w a seen) ≡ 0
     by_test true e h = eqb-true _ 0 e
     by_test false e h = absurd (cc)
 

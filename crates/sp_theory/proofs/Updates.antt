@@ -8,7 +8,7 @@ use Rattle.std.proofs.Math.Nat.{mul-le-mul_right, mul-le-mul_left}
 use Rattle.std.proofs.lemmas.Nat.{pow-add}
 use Rattle.sp_theory.specs.Sums.{times, sum_below}
 use Rattle.sp_theory.specs.Points.{IsPoint, count_of, sum_over}
-use Rattle.sp_theory.specs.Draws.{q, Draws, after, IsWhole, chance, thinned}
+use Rattle.sp_theory.specs.Draws.{q, Draws, after, AreProbabilitiesWhole, chance, thinned}
 use Rattle.sp_theory.specs.Model.{Model, State, IsLawful}
 use Rattle.sp_theory.specs.Values.{Weights}
 use Rattle.sp_theory.specs.Beliefs.{Transfer, table_of, tables_of, summed_out, all_summed_out, moved, first_state, unscaled_next, exact_next}
@@ -76,7 +76,7 @@ pub product-chance : (m : Model) (a : ℕ) (s next : State) → length next ≡ 
 product-chance m a s next same = product-among m a (range_with_len 0 (length m.sizes)) s next ∙ ap (λ (n : ℕ). among (m.moves a s) next (range_with_len 0 n)) (sym same) ∙ among-over (m.moves a s) next
 
 -- a probability is at most one
-pub chance_at_most : (sizes : List ℕ) (draws : Draws) (next : List ℕ) → IsWhole sizes draws → IsPoint sizes next → (i : ℕ) → i < length sizes → draws (take i next) (get_or next i 0) ≤ q
+pub chance_at_most : (sizes : List ℕ) (draws : Draws) (next : List ℕ) → AreProbabilitiesWhole sizes draws → IsPoint sizes next → (i : ℕ) → i < length sizes → draws (take i next) (get_or next i 0) ≤ q
 chance_at_most [] draws next whole p i less = absurd (omega arith)
 chance_at_most (size ∷ sizes) draws (x ∷ next) whole (low, p) zero less = let part = chance_part size (draws []) x low in let same = whole.0 in omega (arith, ints, part, same)
 chance_at_most (size ∷ sizes) draws (x ∷ next) whole (low, p) (suc i) less = chance_at_most sizes (after x draws) next (whole.1 x low) p i (omega arith)

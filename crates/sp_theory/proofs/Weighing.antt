@@ -6,7 +6,7 @@ use Rattle.std.proofs.Math.IntN.{zero-*ℤ, +ℤ_idr}
 use Rattle.std.proofs.Math.Nat.{mul_comm, pow-zero, pow-suc}
 use Rattle.sp_theory.specs.Sums.{times, floor, sum_below}
 use Rattle.sp_theory.specs.Points.{IsPoint, sum_over}
-use Rattle.sp_theory.specs.Draws.{q, Draws, after, IsWhole, chance, mean, weigh_out, weighed}
+use Rattle.sp_theory.specs.Draws.{q, Draws, after, AreProbabilitiesWhole, chance, mean, weigh_out, floored_expectation}
 use Rattle.sp_theory.proofs.Whole.{times-add, times-times, times-one, times_mono, floor-times, +ℤ-*ℤ, floor_below, floor_above, floor_mono, ≤ℤ_trans, sum_below_mono, sum_below-add, sum_below-times, sum_below_same}
 
 pub q_pos : 0 < q
@@ -87,8 +87,8 @@ drawn-constant k d z whole = scaled k (λ x. pos (d [] x)) ∙ ap (λ (t : ℤ).
     scaled zero f = sym (zero-*ℤ z)
     scaled (suc k) f = ap (λ (t : ℤ). t +ℤ f k *ℤ z) (scaled k f) ∙ sym (+ℤ-*ℤ (sum_below k f) (f k) z)
 
-pub weighed_low : (ks : List ℕ) (d : Draws) (f : List ℕ → ℤ) → times (q ^ length ks) (weighed ks d f) ≤ℤ mean ks d f
-unfolding weighed
+pub weighed_low : (ks : List ℕ) (d : Draws) (f : List ℕ → ℤ) → times (q ^ length ks) (floored_expectation ks d f) ≤ℤ mean ks d f
+unfolding floored_expectation
 weighed_low [] d f = le_same (ap (λ (t : ℕ). times t (f [])) (pow-zero q) ∙ times-one (f []) ∙ sym (mean-none d f))
 weighed_low (k ∷ ks) d f =
     ≤ℤ_trans (le_same (ap (λ (t : ℕ). times t part) (pow-suc q (length ks)) ∙ times-times (q ^ length ks) q part))
@@ -98,14 +98,14 @@ weighed_low (k ∷ ks) d f =
     (le_same (sym (mean-cons k ks d f))))))
   where
     rest : ℕ → ℤ
-    rest x = weighed ks (after x d) (λ xs. f (x ∷ xs))
+    rest x = floored_expectation ks (after x d) (λ xs. f (x ∷ xs))
 
     part : ℤ
     part = floor (drawn k d rest) q
 
 -- at most one more for each value that is weighed out
-pub weighed_high : (ks : List ℕ) (d : Draws) (f : List ℕ → ℤ) → IsWhole ks d → mean ks d f ≤ℤ times (q ^ length ks) (weighed ks d f +ℤ pos (length ks))
-unfolding weighed
+pub weighed_high : (ks : List ℕ) (d : Draws) (f : List ℕ → ℤ) → AreProbabilitiesWhole ks d → mean ks d f ≤ℤ times (q ^ length ks) (floored_expectation ks d f +ℤ pos (length ks))
+unfolding floored_expectation
 weighed_high [] d f whole = le_same (mean-none d f ∙ sym (ap (λ (t : ℕ). times t (f [] +ℤ pos 0)) (pow-zero q) ∙ times-one (f [] +ℤ pos 0) ∙ +ℤ_idr (f [])))
 weighed_high (k ∷ ks) d f whole =
     ≤ℤ_trans (le_same (mean-cons k ks d f))
@@ -115,7 +115,7 @@ weighed_high (k ∷ ks) d f whole =
     (le_same (sym (ap (λ (t : ℕ). times t (part +ℤ pos (suc (length ks)))) (pow-suc q (length ks)) ∙ times-times (q ^ length ks) q _))))))
   where
     rest : ℕ → ℤ
-    rest x = weighed ks (after x d) (λ xs. f (x ∷ xs))
+    rest x = floored_expectation ks (after x d) (λ xs. f (x ∷ xs))
 
     part : ℤ
     part = floor (drawn k d rest) q
@@ -129,47 +129,47 @@ weighed_high (k ∷ ks) d f whole =
         let same = drawn-constant k d (pos (length ks)) whole.0 in
         omega (arith, ints, above, one, all, parts, same)
 
-pub weighed_mono : (ks : List ℕ) (d : Draws) (f g : List ℕ → ℤ) → ((xs : List ℕ) → IsPoint ks xs → f xs ≤ℤ g xs) → weighed ks d f ≤ℤ weighed ks d g
-unfolding weighed
+pub weighed_mono : (ks : List ℕ) (d : Draws) (f g : List ℕ → ℤ) → ((xs : List ℕ) → IsPoint ks xs → f xs ≤ℤ g xs) → floored_expectation ks d f ≤ℤ floored_expectation ks d g
+unfolding floored_expectation
 weighed_mono [] d f g h = h [] tt
 weighed_mono (k ∷ ks) d f g h = floor_mono _ _ q q_pos (drawn_mono k d _ _ (λ x less. weighed_mono ks (after x d) _ _ (λ xs p. h (x ∷ xs) (less, p))))
 
-pub weighed-constant : (ks : List ℕ) (d : Draws) (z : ℤ) → IsWhole ks d → weighed ks d (λ xs. z) ≡ z
-unfolding weighed
+pub weighed-constant : (ks : List ℕ) (d : Draws) (z : ℤ) → AreProbabilitiesWhole ks d → floored_expectation ks d (λ xs. z) ≡ z
+unfolding floored_expectation
 weighed-constant [] d z whole = refl
 weighed-constant (k ∷ ks) d z whole = ap (λ (t : ℤ). floor t q) (sum_below_same k _ _ (λ x less. ap (times (d [] x)) (weighed-constant ks (after x d) z (whole.1 x less))) ∙ drawn-constant k d z whole.0) ∙ floor-times q z q_pos
 
-pub mean-constant : (ks : List ℕ) (d : Draws) (z : ℤ) → IsWhole ks d → mean ks d (λ xs. z) ≡ times (q ^ length ks) z
+pub mean-constant : (ks : List ℕ) (d : Draws) (z : ℤ) → AreProbabilitiesWhole ks d → mean ks d (λ xs. z) ≡ times (q ^ length ks) z
 mean-constant [] d z whole = mean-none d (λ xs. z) ∙ sym (ap (λ (t : ℕ). times t z) (pow-zero q) ∙ times-one z)
 mean-constant (k ∷ ks) d z whole = mean-cons k ks d (λ xs. z) ∙ sum_below_same k _ _ (λ x less. ap (times (d [] x)) (mean-constant ks (after x d) z (whole.1 x less))) ∙ drawn-constant k d (times (q ^ length ks) z) whole.0 ∙ times-swap q (q ^ length ks) z ∙ sym (ap (λ (t : ℕ). times t z) (pow-suc q (length ks)) ∙ times-times (q ^ length ks) q z)
 
 -- what stays in a range is weighed out to a number of the range
-pub weighed_from : (ks : List ℕ) (d : Draws) (f : List ℕ → ℤ) (z : ℤ) → IsWhole ks d → ((xs : List ℕ) → IsPoint ks xs → z ≤ℤ f xs) → z ≤ℤ weighed ks d f
+pub weighed_from : (ks : List ℕ) (d : Draws) (f : List ℕ → ℤ) (z : ℤ) → AreProbabilitiesWhole ks d → ((xs : List ℕ) → IsPoint ks xs → z ≤ℤ f xs) → z ≤ℤ floored_expectation ks d f
 weighed_from ks d f z whole h = ≤ℤ_trans (le_same (sym (weighed-constant ks d z whole))) (weighed_mono ks d (λ xs. z) f h)
 
-pub weighed_to : (ks : List ℕ) (d : Draws) (f : List ℕ → ℤ) (z : ℤ) → IsWhole ks d → ((xs : List ℕ) → IsPoint ks xs → f xs ≤ℤ z) → weighed ks d f ≤ℤ z
+pub weighed_to : (ks : List ℕ) (d : Draws) (f : List ℕ → ℤ) (z : ℤ) → AreProbabilitiesWhole ks d → ((xs : List ℕ) → IsPoint ks xs → f xs ≤ℤ z) → floored_expectation ks d f ≤ℤ z
 weighed_to ks d f z whole h = ≤ℤ_trans (weighed_mono ks d f (λ xs. z) h) (le_same (weighed-constant ks d z whole))
 
-pub weighed_same : (ks : List ℕ) (d : Draws) (f g : List ℕ → ℤ) → ((xs : List ℕ) → IsPoint ks xs → f xs ≡ g xs) → weighed ks d f ≡ weighed ks d g
-unfolding weighed
+pub weighed_same : (ks : List ℕ) (d : Draws) (f g : List ℕ → ℤ) → ((xs : List ℕ) → IsPoint ks xs → f xs ≡ g xs) → floored_expectation ks d f ≡ floored_expectation ks d g
+unfolding floored_expectation
 weighed_same [] d f g h = h [] tt
 weighed_same (k ∷ ks) d f g h = ap (λ (t : ℤ). floor t q) (sum_below_same k _ _ (λ x less. ap (times (d [] x)) (weighed_same ks (after x d) _ _ (λ xs p. h (x ∷ xs) (less, p)))))
 
 -- ---- weighing out what was rounded before
-pub two_low : (ks : List ℕ) (d : Draws) (l : ℕ) (f g : List ℕ → ℤ) → ((xs : List ℕ) → IsPoint ks xs → times (q ^ l) (f xs) ≤ℤ g xs) → times (q ^ l) (times (q ^ length ks) (weighed ks d f)) ≤ℤ mean ks d g
+pub two_low : (ks : List ℕ) (d : Draws) (l : ℕ) (f g : List ℕ → ℤ) → ((xs : List ℕ) → IsPoint ks xs → times (q ^ l) (f xs) ≤ℤ g xs) → times (q ^ l) (times (q ^ length ks) (floored_expectation ks d f)) ≤ℤ mean ks d g
 two_low ks d l f g h = ≤ℤ_trans (times_mono (q ^ l) _ _ (weighed_low ks d f)) (≤ℤ_trans (le_same (sym (mean-times ks d (q ^ l) f))) (mean_mono ks d _ _ h))
 
-pub two_high : (ks : List ℕ) (d : Draws) (l : ℕ) (f g : List ℕ → ℤ) → IsWhole ks d → ((xs : List ℕ) → IsPoint ks xs → g xs ≤ℤ times (q ^ l) (f xs +ℤ pos l)) → mean ks d g ≤ℤ times (q ^ l) (times (q ^ length ks) (weighed ks d f +ℤ pos (length ks + l)))
+pub two_high : (ks : List ℕ) (d : Draws) (l : ℕ) (f g : List ℕ → ℤ) → AreProbabilitiesWhole ks d → ((xs : List ℕ) → IsPoint ks xs → g xs ≤ℤ times (q ^ l) (f xs +ℤ pos l)) → mean ks d g ≤ℤ times (q ^ l) (times (q ^ length ks) (floored_expectation ks d f +ℤ pos (length ks + l)))
 two_high ks d l f g whole h =
     ≤ℤ_trans (mean_mono ks d _ _ h) (≤ℤ_trans (le_same (mean-times ks d (q ^ l) (λ xs. f xs +ℤ pos l))) (times_mono (q ^ l) _ _ together))
   where
-    together : mean ks d (λ xs. f xs +ℤ pos l) ≤ℤ times (q ^ length ks) (weighed ks d f +ℤ pos (length ks + l))
+    together : mean ks d (λ xs. f xs +ℤ pos l) ≤ℤ times (q ^ length ks) (floored_expectation ks d f +ℤ pos (length ks + l))
     together =
         let parts = mean-add ks d f (λ xs. pos l) in
         let same = mean-constant ks d (pos l) whole in
         let high = weighed_high ks d f whole in
-        let one = times-add (q ^ length ks) (weighed ks d f) (pos (length ks)) in
-        let two = times-add (q ^ length ks) (weighed ks d f) (pos (length ks + l)) in
+        let one = times-add (q ^ length ks) (floored_expectation ks d f) (pos (length ks)) in
+        let two = times-add (q ^ length ks) (floored_expectation ks d f) (pos (length ks + l)) in
         omega (arith, ints, parts, same, high, one, two)
 
 -- ---- one variable

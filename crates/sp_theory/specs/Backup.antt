@@ -4,7 +4,7 @@ use Rattle.std.specs.Prelude.{ℤ, ◌+ℤ◌}
 use Rattle.std.specs.List.{range_with_len}
 use Rattle.sp_theory.specs.Sums.{times}
 use Rattle.sp_theory.specs.Points.{count_of, point_of, sum_over}
-use Rattle.sp_theory.specs.Draws.{q, chance, mean, weighed, thinned}
+use Rattle.sp_theory.specs.Draws.{q, chance, mean, floored_expectation, thinned}
 use Rattle.sp_theory.specs.Model.{Model, Vector}
 use Rattle.sp_theory.specs.Step.{step, expected_reward}
 use Rattle.sp_theory.specs.Values.{greatest, Weights, Member, leaf_member, Edition, dot}
@@ -12,7 +12,7 @@ use Rattle.sp_theory.specs.Values.{greatest, Weights, Member, leaf_member, Editi
 -- ---- with floors
 -- what a vector brings after an action and a joint observation: multiplied by the observation's probabilities, then the next state weighed out
 unfoldable pub estimate : Model → Weights → ℕ → List ℕ → Vector → ℤ
-estimate m w a seen v = dot m w (λ s. weighed m.sizes (m.moves a s) (λ next. thinned (m.sights a next) seen (v next)))
+estimate m w a seen v = dot m w (λ s. floored_expectation m.sizes (m.moves a s) (λ next. thinned (m.sights a next) seen (v next)))
 
 -- the link of an action and a joint observation: the member of the greatest estimate
 unfoldable pub link_at : Model → Edition → Weights → ℕ → List ℕ → Member

@@ -6,7 +6,7 @@ use Rattle.sp_theory.specs.Points.{IsPoint, count_of, point_of, sum_over}
 use Rattle.sp_theory.specs.Draws.{q}
 use Rattle.sp_theory.specs.Model.{Model, State, all_own, IsLawful, HasInitial}
 use Rattle.sp_theory.specs.Values.{Weights}
-use Rattle.sp_theory.specs.Scaling.{total_weight, scaled, IsScaled}
+use Rattle.sp_theory.specs.Scaling.{total_weight, scaled_weights, IsScaled}
 use Rattle.sp_theory.specs.Beliefs.{initial_weights, unscaled_next, next_weights, exact_next}
 use Rattle.sp_theory.specs.Samples.{Chooser, Sample, AreSamplesOf, whole_total, drawn_observation, sample_after, samples}
 
@@ -39,7 +39,7 @@ LimitsKeepWeight = (m : Model) → length m.sizes ≤ 24 → states m ≤ 2 ^ 24
 -- ---- scale
 -- weights of a total above 0 and at most 2^62 are brought to scale
 abbrev pub ScalingGivesScale : Type 0
-ScalingGivesScale = (m : Model) (w : Weights) → 0 < total_weight m w → total_weight m w ≤ 2 ^ 62 → IsScaled m (scaled m w)
+ScalingGivesScale = (m : Model) (w : Weights) → 0 < total_weight m w → total_weight m w ≤ 2 ^ 62 → IsScaled m (scaled_weights m w)
 
 -- the initial weights are to scale, where the floors can't take all weight away
 abbrev pub InitialIsScaled : Type 0

@@ -7,7 +7,7 @@ use Rattle.sp_theory.specs.Points.{put, sum_over, holds_over}
 use Rattle.sp_theory.specs.Draws.{q, chance, thinned}
 use Rattle.sp_theory.specs.Model.{State, Model}
 use Rattle.sp_theory.specs.Values.{Weights}
-use Rattle.sp_theory.specs.Scaling.{total_weight, scaled}
+use Rattle.sp_theory.specs.Scaling.{total_weight, scaled_weights}
 
 -- ---- the initial belief
 -- 2^62 at every state, multiplied by each factor in order, rounded down each time
@@ -16,7 +16,7 @@ unscaled_initial m s = unsigned_abs (fold (λ z factor. floor (times (factor.sha
 
 -- the weights of the initial belief
 abbrev pub initial_weights : Model → Weights
-initial_weights m = scaled m (unscaled_initial m)
+initial_weights m = scaled_weights m (unscaled_initial m)
 
 -- ---- tables
 -- a number for each state and next state
@@ -75,7 +75,7 @@ unscaled_next m w a seen next = unsigned_abs (thinned (m.sights a next) seen (mo
 
 -- the next weights after an action and a joint observation; none where the observation is unseen: the weights before scaling are all zero
 unfoldable pub next_weights : Model → Weights → ℕ → List ℕ → Option Weights
-next_weights m w a seen = cond (eqb (total_weight m (unscaled_next m w a seen)) 0) None (Some (scaled m (unscaled_next m w a seen)))
+next_weights m w a seen = cond (eqb (total_weight m (unscaled_next m w a seen)) 0) None (Some (scaled_weights m (unscaled_next m w a seen)))
 
 -- ---- the exact update
 -- the exact next weights, over q for each variable

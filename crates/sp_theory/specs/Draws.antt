@@ -17,9 +17,9 @@ abbrev pub after : ℕ → Draws → Draws
 after x draws = λ before. draws (x ∷ before)
 
 -- each draw's probabilities sum to one
-abbrev pub IsWhole : List ℕ → Draws → Type 0
-IsWhole [] draws = Unit {0}
-IsWhole (size ∷ sizes) draws = (sum_below size (λ x. pos (draws [] x)) ≡ pos q) × ((x : ℕ) → x < size → IsWhole sizes (after x draws))
+abbrev pub AreProbabilitiesWhole : List ℕ → Draws → Type 0
+AreProbabilitiesWhole [] draws = Unit {0}
+AreProbabilitiesWhole (size ∷ sizes) draws = (sum_below size (λ x. pos (draws [] x)) ≡ pos q) × ((x : ℕ) → x < size → AreProbabilitiesWhole sizes (after x draws))
 
 -- the joint probability of a point: the product of its values' probabilities, over q for each value
 unfoldable pub chance : Draws → List ℕ → ℕ
@@ -35,9 +35,9 @@ abbrev pub weigh_out : ℕ → (ℕ → ℕ) → (ℕ → ℤ) → ℤ
 weigh_out size row f = floor (sum_below size (λ x. times (row x) (f x))) q
 
 -- the variables of a draw weighed out one at a time, the last one first
-unfoldable pub weighed : List ℕ → Draws → (List ℕ → ℤ) → ℤ
-weighed [] draws f = f []
-weighed (size ∷ sizes) draws f = weigh_out size (draws []) (λ x. weighed sizes (after x draws) (λ xs. f (x ∷ xs)))
+unfoldable pub floored_expectation : List ℕ → Draws → (List ℕ → ℤ) → ℤ
+floored_expectation [] draws f = f []
+floored_expectation (size ∷ sizes) draws f = weigh_out size (draws []) (λ x. floored_expectation sizes (after x draws) (λ xs. f (x ∷ xs)))
 
 -- z times the probability of each value of a point in turn, rounded down each time
 unfoldable pub thinned : Draws → List ℕ → ℤ → ℤ

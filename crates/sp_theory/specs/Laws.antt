@@ -3,7 +3,7 @@ use Rattle.std.proofs.Common.{◌≡◌, ◌≢◌, ℕ, ◌+◌, ◌*◌, ◌-�
 use Rattle.std.specs.Prelude.{ℤ, pos, neg_ℤ, ◌+ℤ◌, ◌≤ℤ◌, ◌<ℤ◌, All, AllPairs, Contains}
 use Rattle.sp_theory.specs.Sums.{times, sum_below}
 use Rattle.sp_theory.specs.Points.{IsPoint, count_of}
-use Rattle.sp_theory.specs.Draws.{q, Draws, IsWhole, mean, weigh_out, weighed}
+use Rattle.sp_theory.specs.Draws.{q, Draws, AreProbabilitiesWhole, mean, weigh_out, floored_expectation}
 use Rattle.sp_theory.specs.Model.{Model, State, Vector, IsLawful, least_reward, greatest_reward, AreRewards, IsReached, least_return, top, divisions}
 use Rattle.sp_theory.specs.Step.{LinkedVectors, step, exact_step}
 use Rattle.sp_theory.specs.Plan.{Record, record_at, exact_return, IsPlan, HasValues}
@@ -48,9 +48,9 @@ WeighingIsClose = (size : ℕ) (row : ℕ → ℕ) (f : ℕ → ℤ) → sum_bel
 
 -- several variables: at most the exact expectation, and at most one below it for each variable
 abbrev pub WeighingsAreClose : Type 0
-WeighingsAreClose = (sizes : List ℕ) (draws : Draws) (f : List ℕ → ℤ) → IsWhole sizes draws
-    → (times (q ^ length sizes) (weighed sizes draws f) ≤ℤ mean sizes draws f)
-    × (mean sizes draws f ≤ℤ times (q ^ length sizes) (weighed sizes draws f +ℤ pos (length sizes)))
+WeighingsAreClose = (sizes : List ℕ) (draws : Draws) (f : List ℕ → ℤ) → AreProbabilitiesWhole sizes draws
+    → (times (q ^ length sizes) (floored_expectation sizes draws f) ≤ℤ mean sizes draws f)
+    × (mean sizes draws f ≤ℤ times (q ^ length sizes) (floored_expectation sizes draws f +ℤ pos (length sizes)))
 
 -- ---- one step
 -- each link is at least the least return at each next state
@@ -144,8 +144,8 @@ DominatedMayGo = (m : Model) (edition : Edition) → IdsTellVectors edition → 
 
 -- ---- runs
 -- no value at a sampled belief is less in the second edition
-abbrev pub Rises : Task → Edition → Edition → Type 0
-Rises t x y = (k : ℕ) → k < t.beliefs → value t.model x (t.samples k) ≤ℤ value t.model y (t.samples k)
+abbrev pub ValuesRise : Task → Edition → Edition → Type 0
+ValuesRise t x y = (k : ℕ) → k < t.beliefs → value t.model x (t.samples k) ≤ℤ value t.model y (t.samples k)
 
 -- two members of different records
 abbrev pub Apart : Member → Member → Type 0
@@ -162,7 +162,7 @@ pub record IsSound (t : Task) (b : Book) : Type 0 where
   pub ranged : All (All (λ x. (s : State) → IsPoint t.model.sizes s → (least_return t.model ≤ℤ x.vector s) × (x.vector s ≤ℤ top t.model))) (editions b)
   pub below_return : All (All (λ x. (s : State) → IsPoint t.model.sizes s → times (q ^ (divisions t.model * x.id)) (x.vector s) ≤ℤ exact_return t.model b.records x.id x.id s)) (editions b)
   -- no value at a sampled belief falls from an edition to a later one
-  pub never_falls : AllPairs (Rises t) (editions b)
+  pub never_falls : AllPairs (ValuesRise t) (editions b)
   -- where a flag is up, some grown member is there at least as good as the latest edition
   pub improves : (k : ℕ) → k < t.beliefs → b.improved k ≡ true → Reaches t.model b.grown (t.samples k) (value t.model b.latest (t.samples k))
   -- each grown member has raised the flag of every belief at which it is at least as good as the latest edition
@@ -206,25 +206,25 @@ SettleImproves = (t : Task) (b : Book) (k e a : ℕ) (links : List ℕ)
     (next.improved k ≡ true) × ((j : ℕ) → b.improved j ≡ true → next.improved j ≡ true)
 
 -- events that are allowed and prompt after a book, and lead to one between turns
-abbrev pub GoesOn : Task → Book → List Event → Type 0
-GoesOn t b es = IsHistory t b es × IsPrompt t b es × IsBetweenTurns t (replay t b es)
+abbrev pub EventsGoOn : Task → Book → List Event → Type 0
+EventsGoOn t b es = IsHistory t b es × IsPrompt t b es × IsBetweenTurns t (replay t b es)
 
 -- after the events of a run, between turns: a settle that may come next goes on with what is due then
 abbrev pub SettleGoesOn : Type 0
 SettleGoesOn = (t : Task) → IsLawful t.model → 0 < t.beliefs → (es : List Event) → IsHistory t (opening t) es
     → let b = replay t (opening t) es in
     IsBetweenTurns t b → (k e a : ℕ) (links : List ℕ) → Allowed t b (settle k e a links) → (pruning : Bool)
-    → GoesOn t b (settle k e a links ∷ due_events t pruning (after_event t b (settle k e a links)))
+    → EventsGoOn t b (settle k e a links ∷ due_events t pruning (after_event t b (settle k e a links)))
 
 -- and so does a prune
 abbrev pub PruneGoesOn : Type 0
-PruneGoesOn = (t : Task) (b : Book) → IsBetweenTurns t b → (pairs : List (ℕ × ℕ)) → Allowed t b (prune pairs) → GoesOn t b (prune pairs ∷ [])
+PruneGoesOn = (t : Task) (b : Book) → IsBetweenTurns t b → (pairs : List (ℕ × ℕ)) → Allowed t b (prune pairs) → EventsGoOn t b (prune pairs ∷ [])
 
 -- and one thread, whatever the words
 abbrev pub OneThreadGoesOn : Type 0
 OneThreadGoesOn = (t : Task) → IsLawful t.model → 0 < t.beliefs → (es : List Event) → IsHistory t (opening t) es
     → let b = replay t (opening t) es in
-    IsBetweenTurns t b → (pruning : Bool) (taken : Marks) (words : List ℕ) → GoesOn t b (one_thread t pruning b taken words)
+    IsBetweenTurns t b → (pruning : Bool) (taken : Marks) (words : List ℕ) → EventsGoOn t b (one_thread t pruning b taken words)
 
 -- from the opening the events of one thread are allowed and prompt, whatever the words
 abbrev pub OneThreadIsPrompt : Type 0

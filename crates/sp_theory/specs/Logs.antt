@@ -60,22 +60,22 @@ abbrev pub IsAnswer : Model → Published → Weights → ℕ → ℕ → ℕ �
 IsAnswer m published w e id action = (edition : Edition) × published.has e edition × (id ≡ (greatest_member m edition w).id) × (action ≡ (greatest_member m edition w).action)
 
 -- the weights after a joint observation; none where no answer came before it or where it is unseen
-abbrev pub observed : Model → Session → ℕ → Option Weights
-observed m s o = option_and_then (λ a. next_weights m s.weights a (point_of m.sight_sizes o)) s.acted
+abbrev pub weights_after_observation : Model → Session → ℕ → Option Weights
+weights_after_observation m s o = option_and_then (λ a. next_weights m s.weights a (point_of m.sight_sizes o)) s.acted
 
 -- whether the entry may come next
 unfoldable pub MayEnter : Model → Published → Session → Entry → Type 0
 MayEnter m published s (told e) = (s.closed ≡ false) × (s.newest ≤ e) × published.may_tell e
 MayEnter m published s (act e id action) = (s.closed ≡ false) × (s.newest ≤ e) × IsAnswer m published s.weights e id action
-MayEnter m published s (observe o) = (s.closed ≡ false) × (o < count_of m.sight_sizes) × IsSome (observed m s o)
-MayEnter m published s (unseen o) = (s.closed ≡ false) × (o < count_of m.sight_sizes) × IsSome s.acted × IsNone (observed m s o)
+MayEnter m published s (observe o) = (s.closed ≡ false) × (o < count_of m.sight_sizes) × IsSome (weights_after_observation m s o)
+MayEnter m published s (unseen o) = (s.closed ≡ false) × (o < count_of m.sight_sizes) × IsSome s.acted × IsNone (weights_after_observation m s o)
 MayEnter m published s (closing e id action) = (s.closed ≡ false) × (s.newest ≤ e) × published.is_last e × IsAnswer m published s.weights e id action
 
 -- the session after the entry
 unfoldable pub after_entry : Model → Session → Entry → Session
 after_entry m s (told e) = record s { newest = e }
 after_entry m s (act e id action) = record s { newest = e; acted = Some action }
-after_entry m s (observe o) = record s { weights = unwrap_or (observed m s o) s.weights; acted = None }
+after_entry m s (observe o) = record s { weights = unwrap_or (weights_after_observation m s o) s.weights; acted = None }
 after_entry m s (unseen o) = s
 after_entry m s (closing e id action) = record s { newest = e; closed = true }
 

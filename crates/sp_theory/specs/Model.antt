@@ -4,7 +4,7 @@ use Rattle.std.specs.Prelude.{ℤ, pos, All, AllPairs, Contains}
 use Rattle.std.specs.Ordering.{int_eq}
 use Rattle.sp_theory.specs.Sums.{times, floor, ceiling, sum_below, least_below, greatest_below}
 use Rattle.sp_theory.specs.Points.{IsPoint, put, least_over, greatest_over, holds_over}
-use Rattle.sp_theory.specs.Draws.{q, Draws, IsWhole}
+use Rattle.sp_theory.specs.Draws.{q, Draws, AreProbabilitiesWhole}
 
 -- a value for each state variable
 abbrev pub State : Type 0
@@ -53,8 +53,8 @@ DependsOnOwn sizes f = (s t : State) → IsPoint sizes s → IsPoint sizes t →
 
 -- the law of a model: every row of its tables sums to one, it has an action, and its discount is below one
 pub record IsLawful (m : Model) : Type 0 where
-  pub moves_whole : (a : ℕ) (s : State) → a < m.actions → IsPoint m.sizes s → IsWhole m.sizes (m.moves a s)
-  pub sights_whole : (a : ℕ) (next : State) → a < m.actions → IsPoint m.sizes next → IsWhole m.sight_sizes (m.sights a next)
+  pub moves_whole : (a : ℕ) (s : State) → a < m.actions → IsPoint m.sizes s → AreProbabilitiesWhole m.sizes (m.moves a s)
+  pub sights_whole : (a : ℕ) (next : State) → a < m.actions → IsPoint m.sizes next → AreProbabilitiesWhole m.sight_sizes (m.sights a next)
   pub some_action : 0 < m.actions
   pub discounts : m.discount < q
 

@@ -44,14 +44,14 @@ abbrev pub Marks : Type 0
 Marks = ℕ → Bool
 
 -- the beliefs without a mark, in order
-abbrev pub unmarked : Task → Marks → List ℕ
-unmarked t marks = filter (λ k. not (marks k)) (range_with_len 0 t.beliefs)
+abbrev pub beliefs_without_mark : Task → Marks → List ℕ
+beliefs_without_mark t marks = filter (λ k. not (marks k)) (range_with_len 0 t.beliefs)
 
 -- the beliefs to pick from: neither improved nor taken; where there is none, not improved
 unfoldable pub open_beliefs : Task → Book → Marks → List ℕ
 open_beliefs t b taken =
-    let fresh = unmarked t (λ k. b.improved k || taken k) in
-    cond (eqb (length fresh) 0) (unmarked t b.improved) fresh
+    let fresh = beliefs_without_mark t (λ k. b.improved k || taken k) in
+    cond (eqb (length fresh) 0) (beliefs_without_mark t b.improved) fresh
 
 -- the one at the word modulo their count
 unfoldable pub picked : Task → Book → Marks → ℕ → ℕ

@@ -77,18 +77,18 @@ abbrev pub sample_at : Model → List Sample → ℕ → Sample
 sample_at m xs k = get_or xs k (first_sample m)
 
 -- the sample is belief 0
-pub record IsFirst (m : Model) (x : Sample) : Type 0 where
+pub record IsFirstSample (m : Model) (x : Sample) : Type 0 where
   pub action : x.action ≡ 0
   pub observation : x.observation ≡ 0
   pub weights : WeightsAgree m x.weights (initial_weights m)
 
 -- the sample is next after a parent's weights: its weights are the next ones after its action and its joint observation, which are the model's
-pub record IsNext (m : Model) (parent : Weights) (x : Sample) : Type 0 where
+pub record IsNextSample (m : Model) (parent : Weights) (x : Sample) : Type 0 where
   pub known : x.action < m.actions
   pub seen : x.observation < count_of m.sight_sizes
   pub next : NextAgree m (next_weights m parent x.action (point_of m.sight_sizes x.observation)) (Some x.weights)
 
 -- samples of a model at a depth: belief 0 comes first, and each later one is next after its parent
 pub record AreSamplesOf (m : Model) (depth : ℕ) (xs : List Sample) : Type 0 where
-  pub first : 0 < length xs → IsFirst m (sample_at m xs 0)
-  pub later : (k : ℕ) → suc k < length xs → IsNext m (parent_weights m depth k (sample_at m xs k).weights) (sample_at m xs (suc k))
+  pub first : 0 < length xs → IsFirstSample m (sample_at m xs 0)
+  pub later : (k : ℕ) → suc k < length xs → IsNextSample m (parent_weights m depth k (sample_at m xs k).weights) (sample_at m xs (suc k))

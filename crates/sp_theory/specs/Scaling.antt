@@ -19,5 +19,5 @@ greatest_power zero n = 1
 greatest_power (suc k) n = cond (nat_le (n * 2 ^ suc k) (2 ^ 62)) (2 ^ suc k) (greatest_power k n)
 
 -- the weights to scale: multiplied by the greatest power of two that keeps their total at most 2^62
-unfoldable pub scaled : Model → Weights → Weights
-scaled m w = λ s. w s * greatest_power 62 (total_weight m w)
+unfoldable pub scaled_weights : Model → Weights → Weights
+scaled_weights m w = λ s. w s * greatest_power 62 (total_weight m w)

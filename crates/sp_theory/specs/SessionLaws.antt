@@ -44,22 +44,22 @@ SeenLogsAreOfRuns = (m : Model) (editions : List Edition) (shelf : List (ℕ × 
     → AllTold (all_of editions) xs → IsLog m (seen_by shelf) s xs → IsLog m (all_of editions) s xs
 
 -- the editions that entries name, in order
-abbrev pub named : List Entry → List ℕ
-named [] = []
-named (told e ∷ xs) = e ∷ named xs
-named (act e id action ∷ xs) = e ∷ named xs
-named (observe o ∷ xs) = named xs
-named (unseen o ∷ xs) = named xs
-named (closing e id action ∷ xs) = e ∷ named xs
+abbrev pub numbers_of_editions : List Entry → List ℕ
+numbers_of_editions [] = []
+numbers_of_editions (told e ∷ xs) = e ∷ numbers_of_editions xs
+numbers_of_editions (act e id action ∷ xs) = e ∷ numbers_of_editions xs
+numbers_of_editions (observe o ∷ xs) = numbers_of_editions xs
+numbers_of_editions (unseen o ∷ xs) = numbers_of_editions xs
+numbers_of_editions (closing e id action ∷ xs) = e ∷ numbers_of_editions xs
 
 -- numbers from n on, none below the one before it
-abbrev pub IsRising : ℕ → List ℕ → Type 0
-IsRising n [] = Unit {0}
-IsRising n (e ∷ es) = (n ≤ e) × IsRising e es
+abbrev pub AreNumbersRising : ℕ → List ℕ → Type 0
+AreNumbersRising n [] = Unit {0}
+AreNumbersRising n (e ∷ es) = (n ≤ e) × AreNumbersRising e es
 
 -- a legal log never names an older edition than before
 abbrev pub LogsNeverGoBack : Type 0
-LogsNeverGoBack = (m : Model) (editions : List Edition) (xs : List Entry) → IsLegalLog m editions xs → IsRising 0 (named xs)
+LogsNeverGoBack = (m : Model) (editions : List Edition) (xs : List Entry) → IsLegalLog m editions xs → AreNumbersRising 0 (numbers_of_editions xs)
 
 -- the last entry is the closing answer, on the last edition, and there is no other
 abbrev pub ClosesOnce : List Edition → List Entry → Type 0

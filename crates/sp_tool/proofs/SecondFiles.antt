@@ -1,7 +1,7 @@
 -- Files that are read behind a first one.
 use Rattle.std.proofs.Common.{◌≡◌, ◌∙◌, ℕ, ◌≤◌, List, [], ◌∷◌, length, map, Option, Some, sym, subst, arith, inl, inr}
 use Rattle.std.specs.Prelude.{ℤ}
-use Rattle.sp_outside.specs.Folder.{Folder, IsLater}
+use Rattle.sp_outside.specs.Folder.{Folder, IsLaterFolder}
 use Rattle.sp_outside.specs.Counts.{Rose}
 use Rattle.sp_model.specs.declared.parts.Parts.{Parts}
 use Rattle.sp_reader.specs.Sources.{Reads}
@@ -16,17 +16,17 @@ use Rattle.sp_judging.specs.ActTexts.{IsActText}
 use Rattle.sp_words.specs.declared.job.PlanWords.{PlanWords}
 use Rattle.sp_words.specs.declared.job.Job.TheVariants.{Plan, Act}
 use Rattle.sp_tool.specs.Inputs.{Input, model_file, plan_file, script_file, name_of, TellsModel, TellsNone, model_limit, plan_limit, script_limit, IsMeant, TellsFault, IsAccepted, Ending, all_accepted, last_refused, last_forbidden, next_unread, EndsWhole, EndsAt, EndsBehind}
-use Rattle.sp_tool.specs.Table.{script_of, Told, Saw, Allows, IsText}
+use Rattle.sp_tool.specs.Table.{script_of, Told, Saw, Allows, IsTextFor}
 use Rattle.sp_tool.specs.Texts.{IsScriptPlanText}
 use Rattle.sp_tool.specs.Faults.{HindersBehind, HindersFiles, Hinders}
 use Rattle.sp_tool.specs.declared.fault.Fault.{Fault}
 use Rattle.sp_tool.specs.declared.fault.Fault.TheVariants as Faults
 
 -- ---- an earlier store
-pub told_earlier : (store mid : Folder) (name bytes : List ℕ) → IsLater store mid → Told (mid.content name) bytes → Told (store.content name) bytes
+pub told_earlier : (store mid : Folder) (name bytes : List ℕ) → IsLaterFolder store mid → Told (mid.content name) bytes → Told (store.content name) bytes
 told_earlier store mid name bytes later told = λ all e. told all (later.content name ∙ e)
 
-saw_earlier : (store mid : Folder) → IsLater store mid → (names files : List (List ℕ)) → Saw mid names files → Saw store names files
+saw_earlier : (store mid : Folder) → IsLaterFolder store mid → (names files : List (List ℕ)) → Saw mid names files → Saw store names files
 saw_earlier store mid later [] [] saw = tt
 saw_earlier store mid later [] (file ∷ files) saw = elim saw [ ]
 saw_earlier store mid later (name ∷ names) [] saw = tt
@@ -35,7 +35,7 @@ saw_earlier store mid later (name ∷ names) (file ∷ files) saw = (told_earlie
 rose_since : (before mid now : ℕ) → before ≤ mid → Rose mid now → Rose before now
 rose_since before mid now low rose = omega (arith, low, rose)
 
-pub later_still : (store mid later : Folder) → IsLater store mid → IsLater mid later → IsLater store later
+pub later_still : (store mid later : Folder) → IsLaterFolder store mid → IsLaterFolder mid later → IsLaterFolder store later
 later_still store mid later a b = record {
   content = λ name. b.content name ∙ a.content name;
   faults = λ name. let low = a.faults name in let high = b.faults name in omega (arith, low, high);
@@ -70,7 +70,7 @@ module _ (told other : Parts → Type 0) (more : (p : Parts) → told p → othe
 -- ---- what hinders several files
 -- what hinders the files behind an accepted one
 pub behind_hinders : (first : Input) (source : List ℕ) (ins : List Input) (told : Parts → Type 0) (store mid later : Folder) (fault : Fault)
-    → Told (store.content (name_of first)) source → IsAccepted TellsNone first source → ((p : Parts) → told p → TellsModel first source p) → IsLater store mid
+    → Told (store.content (name_of first)) source → IsAccepted TellsNone first source → ((p : Parts) → told p → TellsModel first source p) → IsLaterFolder store mid
     → HindersBehind told ins mid later fault → HindersFiles (first ∷ ins) store later fault
 behind_hinders first source ins told store mid later Faults.NoMemory same may more since h = tt
 behind_hinders first source ins told store mid later (Faults.Refused line) same may more since h =
@@ -121,14 +121,14 @@ pub plan_hinders : (p : PlanWords) (sessions : Option (List ℕ)) (store later :
 plan_hinders p sessions store later fault is h = subst (λ (s : Option (List ℕ)). HindersFiles (model_file p.model ∷ script_of s) store later fault) (sym is) h
 
 -- the text of a plan for bytes of its files
-pub plan_text_of : (p : PlanWords) (sessions : Option (List ℕ)) (store : Folder) (files : List (List ℕ)) (text : List ℕ) → p.sessions ≡ sessions → Saw store (map name_of (model_file p.model ∷ script_of sessions)) files → Allows (Plan p) files text → IsText store (Plan p) text
+pub plan_text_of : (p : PlanWords) (sessions : Option (List ℕ)) (store : Folder) (files : List (List ℕ)) (text : List ℕ) → p.sessions ≡ sessions → Saw store (map name_of (model_file p.model ∷ script_of sessions)) files → Allows (Plan p) files text → IsTextFor store (Plan p) text
 plan_text_of p sessions store files text is saw may = (files, subst (λ (s : Option (List ℕ)). Saw store (map name_of (model_file p.model ∷ script_of s)) files) (sym is) saw, may)
 
 -- the text of a plan with a script, and what hinders the script
-module _ (p : PlanWords) (script : List ℕ) (named : p.sessions ≡ Some script) (store mid : Folder) (since : IsLater store mid)
+module _ (p : PlanWords) (script : List ℕ) (named : p.sessions ≡ Some script) (store mid : Folder) (since : IsLaterFolder store mid)
     (source : List ℕ) (model : Parts) (same : Told (store.content p.model) source) (short : length source ≤ model_limit) (reads : Reads source model) where
   pub script_plan_text_of : (commands : List ℕ) (cs : List Command) (text : List ℕ) → Told (mid.content script) commands → length commands ≤ script_limit → IsScript model.sights commands cs → IsScriptPlanText model p cs text
-      → IsText store (Plan p) text
+      → IsTextFor store (Plan p) text
   script_plan_text_of commands cs text told few means is =
       plan_text_of p (Some script) store (source ∷ commands ∷ []) text named (same, (told_earlier store mid script commands since told, tt)) ((λ e. cc), (short, (model, reads, (few, (cs, means, is)))))
 
@@ -137,11 +137,11 @@ module _ (p : PlanWords) (script : List ℕ) (named : p.sessions ≡ Some script
       (behind_hinders (model_file p.model) source (script_file script ∷ []) (λ m. m ≡ model) store mid later fault same (short, (model, reads)) (λ q e. subst (λ (m : Parts). Reads source m) (sym e) reads) since h)
 
 -- the same of a script on a plan file
-module _ (name script : List ℕ) (store mid : Folder) (since : IsLater store mid)
+module _ (name script : List ℕ) (store mid : Folder) (since : IsLaterFolder store mid)
     (source : List ℕ) (same : Told (store.content name) source) (short : length source ≤ plan_limit)
     (t : TaskParts) (events : List Event) (values : Option (List ℤ)) (transcript : List SessionLog) (legal : IsLegalFile source t events values transcript) where
   pub act_text_of : (commands : List ℕ) (cs : List Command) (text : List ℕ) → Told (mid.content script) commands → length commands ≤ script_limit → IsScript t.model.sights commands cs → IsActText t (events_of events) cs text
-      → IsText store (Act name script) text
+      → IsTextFor store (Act name script) text
   act_text_of commands cs text told few means is =
       let plan : IsLegalPlan source = record { task = t; events = events; values = values; transcript = transcript; legal = legal } in
       (source ∷ commands ∷ [], (same, (told_earlier store mid script commands since told, tt)), (short, (plan, (few, (cs, means, is)))))

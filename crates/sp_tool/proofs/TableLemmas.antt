@@ -2,8 +2,8 @@
 use Rattle.std.proofs.Common.{◌≡◌, ℕ, ◌+◌, ◌<◌, ◌≤◌, List, [], ◌∷◌, length, Option, Some, None, Result, refl, sym, ◌∙◌, subst, Contains, arith, replicate, OnOk, OnErr, Ok, Err, inl, inr}
 use Rattle.std.specs.Prelude.{◌≢◌, IfOk, MatchResult}
 use Rattle.std.proofs.lemmas.List.{append-nil, length-replicate}
-use Rattle.sp_outside.specs.Folder.{Folder, IsLater}
-use Rattle.sp_outside.specs.Written.{Written}
+use Rattle.sp_outside.specs.Folder.{Folder, IsLaterFolder}
+use Rattle.sp_outside.specs.Written.{WrittenBytes}
 use Rattle.sp_outside.specs.Counts.{HasCause}
 use Rattle.sp_outside.specs.Bytes.{Appended, AppendedPart}
 use Rattle.sp_gen.specs.Models.{generated_text}
@@ -30,12 +30,12 @@ some_longer None limit h = (replicate (limit + 1) 0, λ all e. cc, omega (arith,
 some_longer (Some bytes) limit h = (bytes, λ all e. cc, h bytes refl)
 
 -- a line is told as a whole, or in part where the count rose
-pub tells : (line : List ℕ) (err gone : Written) {T E : Type 0} (r : Result T E) → OnOk r (Appended err.bytes gone.bytes line) → OnErr r (AppendedPart err.bytes gone.bytes line) → HasCause err.faults gone.faults r → Tells line err gone
+pub tells : (line : List ℕ) (err gone : WrittenBytes) {T E : Type 0} (r : Result T E) → OnOk r (Appended err.bytes gone.bytes line) → OnErr r (AppendedPart err.bytes gone.bytes line) → HasCause err.faults gone.faults r → Tells line err gone
 tells line err gone (Ok x) whole part cause = record { part = inl whole; whole = λ still. whole }
 tells line err gone (Err x) whole part cause = record { part = inr part; whole = λ still. absurd (still cause.failed) }
 
 -- nothing is told on an err that is as it was
-pub tells_nothing : (err : Written) → Tells [] err err
+pub tells_nothing : (err : WrittenBytes) → Tells [] err err
 tells_nothing err = record { part = inl (λ b e. rw append-nil e); whole = λ still b e. rw append-nil e }
 
 -- the files of a plan are accepted, without a script and with one
@@ -162,7 +162,7 @@ module _ (c : Call) where
         absurd (accepted_or_forbidden (inputs job) files cause.2.0 w.0 line may w.1)
 
 -- a cause and its line are an answer
-pub answers : (c : Call) (err gone : Written) (status : Status) (line : List ℕ) → Cause c status line → Tells line err gone → (status ≡ Done → gone ≡ err) → IsLater c.store c.later → Answers c err gone status
+pub answers : (c : Call) (err gone : WrittenBytes) (status : Status) (line : List ℕ) → Cause c status line → Tells line err gone → (status ≡ Done → gone ≡ err) → IsLaterFolder c.store c.later → Answers c err gone status
 answers c err gone status line cause told quiet later = record {
   cause = (line, cause, told);
   quiet = quiet;
@@ -174,7 +174,7 @@ answers c err gone status line cause told quiet later = record {
 }
 
 -- what hinders a job is a cause
-pub hindered : (words : List (List ℕ)) (store later : Folder) (out : Written) (job : Job) (fault : Fault) → Asks words job → Hinders job store later fault
+pub hindered : (words : List (List ℕ)) (store later : Folder) (out : WrittenBytes) (job : Job) (fault : Fault) → Asks words job → Hinders job store later fault
     → Cause (record { words = words; store = store; later = later; out = out; end = out }) (status_of fault) (line_of fault)
 hindered words store later out job Faults.NoMemory asks h = (refl, refl)
 hindered words store later out job (Faults.Refused line) asks h = (job, asks, (h.0, h.1, h.2, refl))
@@ -192,10 +192,10 @@ not_done Faults.WriteFault e = cc
 not_done (Faults.NotLegal line) e = cc
 
 -- a fault whose line was told is an answer
-pub fault_answers : (words : List (List ℕ)) (store later : Folder) (out end err gone : Written) (fault : Fault) (line : List ℕ) (status : Status) {T E : Type 0} (r : Result T E)
+pub fault_answers : (words : List (List ℕ)) (store later : Folder) (out end err gone : WrittenBytes) (fault : Fault) (line : List ℕ) (status : Status) {T E : Type 0} (r : Result T E)
     → Cause (record { words = words; store = store; later = later; out = out; end = end }) (status_of fault) (line_of fault)
     → line ≡ line_of fault → status ≡ status_of fault
-    → OnOk r (Appended err.bytes gone.bytes line) → OnErr r (AppendedPart err.bytes gone.bytes line) → HasCause err.faults gone.faults r → IsLater store later
+    → OnOk r (Appended err.bytes gone.bytes line) → OnErr r (AppendedPart err.bytes gone.bytes line) → HasCause err.faults gone.faults r → IsLaterFolder store later
     → Answers (record { words = words; store = store; later = later; out = out; end = end }) err gone status
 fault_answers words store later out end err gone fault line status r cause e s whole part risen is_later =
     let cause' : Cause (record { words = words; store = store; later = later; out = out; end = end }) status line = rw (e, s) cause in

@@ -67,7 +67,7 @@ TellsFault told (model_file name) source line = (at : ℕ) × ((kind : List ℕ)
 TellsFault told (plan_file name) source line = (at : ℕ) × ((kind : PlanKind) × IsFault source at kind × (line ≡ refused_line name at (kind_word kind)))
 TellsFault told (script_file name) source line =
     (model : Parts) × told model
-    × ((number : ℕ) × ((kind : ScriptKind) × scripts.IsRefused model.sights source (Fault number kind) × (line ≡ refused_script_line name number (script_kind_word kind))))
+    × ((number : ℕ) × ((kind : ScriptKind) × scripts.IsScriptRefused model.sights source (Fault number kind) × (line ≡ refused_script_line name number (script_kind_word kind))))
 
 -- the bytes are a plan file that isn't legal, or whose values aren't its editions', which the line tells
 abbrev pub TellsIllegal : Input → List ℕ → List ℕ → Type 0

@@ -1,7 +1,7 @@
 -- Which status a call may give, and what it writes.
 use Rattle.std.specs.Prelude.{◌≡◌, ℕ, ◌≤◌, List, [], ◌∷◌, length, map, Option, Some, None, ◌≢◌, Contains, ⊤, ◌⊎◌}
-use Rattle.sp_outside.specs.Folder.{Folder, IsLater}
-use Rattle.sp_outside.specs.Written.{Written}
+use Rattle.sp_outside.specs.Folder.{Folder, IsLaterFolder}
+use Rattle.sp_outside.specs.Written.{WrittenBytes}
 use Rattle.sp_outside.specs.Counts.{Rose}
 use Rattle.sp_outside.specs.Bytes.{Appended, AppendedPart, IfTold}
 use Rattle.sp_model.specs.declared.parts.Parts.{Parts}
@@ -46,8 +46,8 @@ abbrev pub Accepts : List ℕ → (Parts → Type 0) → Type 0
 Accepts source P = (length source ≤ model_limit) × ((model : Parts) × Reads source model × P model)
 
 -- the bytes of a plan file are within the limit, and this holds of them
-abbrev pub IsWithin : List ℕ → Type 0 → Type 0
-IsWithin source P = (length source ≤ plan_limit) × P
+abbrev pub IsWithinLimit : List ℕ → Type 0 → Type 0
+IsWithinLimit source P = (length source ≤ plan_limit) × P
 
 -- the bytes of a script are within the limit, and mean commands for the model of which this holds
 abbrev pub AcceptsScript : List ℕ → Parts → (List Command → Type 0) → Type 0
@@ -61,10 +61,10 @@ Allows (Check name) (source ∷ []) text = Accepts source (λ model. text ≡ ch
 Allows (Show name) (source ∷ []) text = Accepts source (λ model. IsShownText model text)
 Allows (Gen number) [] text = text ≡ generated_text number
 Allows (Trial number) [] text = (model : Parts) × Reads (generated_text number) model × IsTrialText model number text
-Allows (Audit name) (source ∷ []) text = IsWithin source (IsAuditText source text)
-Allows (Migrate name) (source ∷ []) text = IsWithin source (IsMigratedText source text)
+Allows (Audit name) (source ∷ []) text = IsWithinLimit source (IsAuditText source text)
+Allows (Migrate name) (source ∷ []) text = IsWithinLimit source (IsMigratedText source text)
 Allows (Act name script) (source ∷ commands ∷ []) text =
-    IsWithin source ((plan : IsLegalPlan source) × AcceptsScript commands plan.task.model (λ cs. IsActText plan.task (events_of plan.events) cs text))
+    IsWithinLimit source ((plan : IsLegalPlan source) × AcceptsScript commands plan.task.model (λ cs. IsActText plan.task (events_of plan.events) cs text))
 Allows job files text = ⊥
 
 -- with these bytes all files of the job are accepted
@@ -111,8 +111,8 @@ Saw store [] (bytes ∷ files) = ⊥
 Saw store (name ∷ names) (bytes ∷ files) = Told (store.content name) bytes × Saw store names files
 
 -- a text that the job may write for bytes of its files, which are what the store tells where it does
-abbrev pub IsText : Folder → Job → List ℕ → Type 0
-IsText store job text = (files : List (List ℕ)) × Saw store (names job) files × Allows job files text
+abbrev pub IsTextFor : Folder → Job → List ℕ → Type 0
+IsTextFor store job text = (files : List (List ℕ)) × Saw store (names job) files × Allows job files text
 
 -- the store tells these bytes of the first of these names
 abbrev pub Holds : Folder → List (List ℕ) → List (List ℕ) → Type 0
@@ -125,8 +125,8 @@ pub record Call : Type 0 where
   pub words : List (List ℕ)
   pub store : Folder
   pub later : Folder
-  pub out : Written
-  pub end : Written
+  pub out : WrittenBytes
+  pub end : WrittenBytes
 
 -- why a call gives a status, and the line that it owes to err
 abbrev pub Cause : Call → Status → List ℕ → Type 0
@@ -155,7 +155,7 @@ Cause c NotLegal line =
     × ((files : List (List ℕ)) × Saw c.store (names job) files × Forbids job files line × (c.end ≡ c.out))
 
 -- err gained a part of the line, and all of it where its count did not rise
-pub record Tells (line : List ℕ) (err gone : Written) : Type 0 where
+pub record Tells (line : List ℕ) (err gone : WrittenBytes) : Type 0 where
   pub part : Appended err.bytes gone.bytes line ⊎ AppendedPart err.bytes gone.bytes line
   pub whole : ¬ (Rose err.faults gone.faults) → Appended err.bytes gone.bytes line
 
@@ -165,7 +165,7 @@ pub record NoFault (c : Call) (job : Job) : Type 0 where
   pub writes : ¬ (Rose c.out.faults c.end.faults)
 
 -- a status that has its cause, and that is one which words and files ask for; no content of the store has changed
-pub record Answers (c : Call) (err gone : Written) (status : Status) : Type 0 where
+pub record Answers (c : Call) (err gone : WrittenBytes) (status : Status) : Type 0 where
   pub cause : (line : List ℕ) × Cause c status line × Tells line err gone
   pub quiet : status ≡ Done → gone ≡ err
   pub usage : ((job : Job) → ¬ (Asks c.words job)) → Contains (Usage ∷ NoMemory ∷ []) status
@@ -175,4 +175,4 @@ pub record Answers (c : Call) (err gone : Written) (status : Status) : Type 0 wh
       → Forbids job files line → Contains (NotLegal ∷ ReadFault ∷ NoMemory ∷ []) status
   pub complete : (job : Job) (files : List (List ℕ)) → Asks c.words job → Holds c.store (names job) files
       → Grants job files → NoFault c job → Contains (Done ∷ NoMemory ∷ []) status
-  pub later : IsLater c.store c.later
+  pub later : IsLaterFolder c.store c.later

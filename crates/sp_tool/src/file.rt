@@ -1,7 +1,7 @@
 //! The model of a file.
 
 ghost use Rattle.std.specs.Prelude.{◌≡◌, ℕ, List, [], ◌∷◌, ◌≤◌, length, IfOk, IfErr};
-ghost use Rattle.sp_outside.specs.Folder.{IsLater};
+ghost use Rattle.sp_outside.specs.Folder.{IsLaterFolder};
 ghost use Rattle.sp_reader.specs.Sources.{Reads};
 ghost use Rattle.sp_tool.specs.Inputs.{TellsNone, model_file, model_limit};
 ghost use Rattle.sp_tool.specs.Table.{Told};
@@ -21,7 +21,7 @@ const MODEL_LIMIT: u64 = 16_777_216;
 pub fn file_model<S: Store>(alloc: Global, store: &mut S, file: &str) -> Result<Model, Fault>
     ensures model { IfOk result (λ m. (source : List ℕ) × Told ((S.folder store.old).content file.now) source × (length source ≤ model_limit) × Reads source m) }
     ensures fault { IfErr result (λ f. HindersFiles (model_file file.now ∷ []) (S.folder store.old) (S.folder store.new) f) }
-    ensures later { IsLater (S.folder store.old) (S.folder store.new) }
+    ensures later { IsLaterFolder (S.folder store.old) (S.folder store.new) }
 {
     match file_bytes(alloc, store, file, MODEL_LIMIT) {
         Ok(source) => model_in(alloc, file, source.as_slice()),
@@ -38,7 +38,7 @@ pub fn file_bytes<S: Store>(
 ) -> Result<Vec<u8>, Fault>
     ensures bytes { IfOk result (λ source. Told ((S.folder store.old).content file.now) source.items × (length source.items ≤ limit)) }
     ensures fault { IfErr result (λ f. HindersReading file.now limit (S.folder store.old) (S.folder store.new) f) }
-    ensures later { IsLater (S.folder store.old) (S.folder store.new) }
+    ensures later { IsLaterFolder (S.folder store.old) (S.folder store.new) }
 {
     match sp_outside::read_whole(alloc, store, file, limit) {
         Ok(source) => Ok(source),

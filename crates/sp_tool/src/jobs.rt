@@ -1,11 +1,11 @@
 //! The texts of jobs.
 
 ghost use Rattle.std.specs.Prelude.{◌≡◌, ◌≤◌, [], ◌∷◌, map, IfOk, IfErr, MatchResult, Ok, Err, Some, None};
-ghost use Rattle.sp_outside.specs.Folder.{IsLater};
+ghost use Rattle.sp_outside.specs.Folder.{IsLaterFolder};
 ghost use Rattle.sp_choose.specs.Machines.{uniform, sweep};
 ghost use Rattle.sp_words.specs.Jobs.{IsPossible, ArePlanNumbers};
 ghost use Rattle.sp_words.specs.declared.job.Job.TheVariants.{Plan, Check, Show, Gen, Trial};
-ghost use Rattle.sp_tool.specs.Table.{Allows, IsText};
+ghost use Rattle.sp_tool.specs.Table.{Allows, IsTextFor};
 ghost use Rattle.sp_tool.specs.Faults.{Hinders};
 
 use crate::fault::Fault;
@@ -29,9 +29,9 @@ pub fn text_for<S: Store>(
 ) -> Result<Vec<u8>, Fault>
     requires job { IsPossible job.now }
     requires choosers { map (λ b. machine b) choosers.items ≡ uniform ∷ sweep 0 ∷ [] }
-    ensures text { IfOk result (λ t. IsText (S.folder store.old) job.now t.items) }
+    ensures text { IfOk result (λ t. IsTextFor (S.folder store.old) job.now t.items) }
     ensures fault { IfErr result (λ f. Hinders job.now (S.folder store.old) (S.folder store.new) f) }
-    ensures later { IsLater (S.folder store.old) (S.folder store.new) }
+    ensures later { IsLaterFolder (S.folder store.old) (S.folder store.new) }
 {
     match job {
         Job::Plan(words) => plan_job(alloc, store, words, choosers),
@@ -54,9 +54,9 @@ fn plan_job<S: Store>(
 ) -> Result<Vec<u8>, Fault>
     requires words { ArePlanNumbers words.now }
     requires choosers { map (λ b. machine b) choosers.items ≡ uniform ∷ sweep 0 ∷ [] }
-    ensures text { IfOk result (λ t. IsText (S.folder store.old) (Plan words.now) t.items) }
+    ensures text { IfOk result (λ t. IsTextFor (S.folder store.old) (Plan words.now) t.items) }
     ensures fault { IfErr result (λ f. Hinders (Plan words.now) (S.folder store.old) (S.folder store.new) f) }
-    ensures later { IsLater (S.folder store.old) (S.folder store.new) }
+    ensures later { IsLaterFolder (S.folder store.old) (S.folder store.new) }
 {
     match &words.sessions {
         None => plan_alone(alloc, store, words, choosers),
@@ -74,9 +74,9 @@ fn plan_alone<S: Store>(
     requires words { ArePlanNumbers words.now }
     requires alone { words.now.sessions ≡ None }
     requires choosers { map (λ b. machine b) choosers.items ≡ uniform ∷ sweep 0 ∷ [] }
-    ensures text { IfOk result (λ t. IsText (S.folder store.old) (Plan words.now) t.items) }
+    ensures text { IfOk result (λ t. IsTextFor (S.folder store.old) (Plan words.now) t.items) }
     ensures fault { IfErr result (λ f. Hinders (Plan words.now) (S.folder store.old) (S.folder store.new) f) }
-    ensures later { IsLater (S.folder store.old) (S.folder store.new) }
+    ensures later { IsLaterFolder (S.folder store.old) (S.folder store.new) }
 {
     match file_model(alloc, store, words.model.as_str()) {
         Ok(model) => or_no_memory(plan_text(alloc, model, words, choosers)),
@@ -95,9 +95,9 @@ fn plan_with_script<S: Store>(
     requires words { ArePlanNumbers words.now }
     requires script { words.now.sessions ≡ Some script.now }
     requires choosers { map (λ b. machine b) choosers.items ≡ uniform ∷ sweep 0 ∷ [] }
-    ensures text { IfOk result (λ t. IsText (S.folder store.old) (Plan words.now) t.items) }
+    ensures text { IfOk result (λ t. IsTextFor (S.folder store.old) (Plan words.now) t.items) }
     ensures fault { IfErr result (λ f. Hinders (Plan words.now) (S.folder store.old) (S.folder store.new) f) }
-    ensures later { IsLater (S.folder store.old) (S.folder store.new) }
+    ensures later { IsLaterFolder (S.folder store.old) (S.folder store.new) }
 {
     let model = match file_model(alloc, store, words.model.as_str()) {
         Ok(model) => model,
@@ -113,9 +113,9 @@ fn plan_with_script<S: Store>(
 
 /// The text of a check.
 fn check_job<S: Store>(alloc: Global, store: &mut S, file: &str) -> Result<Vec<u8>, Fault>
-    ensures text { IfOk result (λ t. IsText (S.folder store.old) (Check file.now) t.items) }
+    ensures text { IfOk result (λ t. IsTextFor (S.folder store.old) (Check file.now) t.items) }
     ensures fault { IfErr result (λ f. Hinders (Check file.now) (S.folder store.old) (S.folder store.new) f) }
-    ensures later { IsLater (S.folder store.old) (S.folder store.new) }
+    ensures later { IsLaterFolder (S.folder store.old) (S.folder store.new) }
 {
     match file_model(alloc, store, file) {
         Ok(model) => or_no_memory(check_text(alloc, &model)),
@@ -125,9 +125,9 @@ fn check_job<S: Store>(alloc: Global, store: &mut S, file: &str) -> Result<Vec<u
 
 /// The canonical text of a model.
 fn show_job<S: Store>(alloc: Global, store: &mut S, file: &str) -> Result<Vec<u8>, Fault>
-    ensures text { IfOk result (λ t. IsText (S.folder store.old) (Show file.now) t.items) }
+    ensures text { IfOk result (λ t. IsTextFor (S.folder store.old) (Show file.now) t.items) }
     ensures fault { IfErr result (λ f. Hinders (Show file.now) (S.folder store.old) (S.folder store.new) f) }
-    ensures later { IsLater (S.folder store.old) (S.folder store.new) }
+    ensures later { IsLaterFolder (S.folder store.old) (S.folder store.new) }
 {
     match file_model(alloc, store, file) {
         Ok(model) => or_no_memory(show_text(alloc, &model)),

@@ -4,12 +4,12 @@ ghost use Rattle.std.specs.Prelude.{◌≡◌, ℕ, List, [], ◌∷◌, ◌≤�
 ghost use Rattle.std.specs.Arc.{arc_value};
 ghost use Rattle.sp_value.specs.Events.{events_of};
 ghost use Rattle.sp_audit.specs.Replays.{IsReplayOf};
-ghost use Rattle.sp_outside.specs.Folder.{IsLater};
+ghost use Rattle.sp_outside.specs.Folder.{IsLaterFolder};
 ghost use Rattle.sp_words.specs.declared.job.Job.TheVariants.{Audit, Migrate, Act};
 ghost use Rattle.sp_judging.specs.PlanFiles.{IsLegalFile, IsAuditText, IsMigratedText, IsReason};
 ghost use Rattle.sp_tool.specs.Kinds.{kind_word};
 ghost use Rattle.sp_tool.specs.Inputs.{TellsNone, plan_file, plan_limit};
-ghost use Rattle.sp_tool.specs.Table.{IsText, Told};
+ghost use Rattle.sp_tool.specs.Table.{IsTextFor, Told};
 ghost use Rattle.sp_tool.specs.Faults.{Hinders, HindersFiles, TellsReason};
 
 use crate::fault::Fault;
@@ -26,9 +26,9 @@ const PLAN_LIMIT: u64 = 1_073_741_824;
 
 /// What is told of a legal plan file.
 pub fn audit_job<S: Store>(alloc: Global, store: &mut S, file: &str) -> Result<Vec<u8>, Fault>
-    ensures text { IfOk result (λ t. IsText (S.folder store.old) (Audit file.now) t.items) }
+    ensures text { IfOk result (λ t. IsTextFor (S.folder store.old) (Audit file.now) t.items) }
     ensures fault { IfErr result (λ f. Hinders (Audit file.now) (S.folder store.old) (S.folder store.new) f) }
-    ensures later { IsLater (S.folder store.old) (S.folder store.new) }
+    ensures later { IsLaterFolder (S.folder store.old) (S.folder store.new) }
 {
     match file_bytes(alloc, store, file, PLAN_LIMIT) {
         Ok(source) => audit_in(alloc, file, source.as_slice()),
@@ -49,9 +49,9 @@ fn audit_in(alloc: Global, file: &str, source: &[u8]) -> Result<Vec<u8>, Fault>
 
 /// A legal plan file in version 2.
 pub fn migrate_job<S: Store>(alloc: Global, store: &mut S, file: &str) -> Result<Vec<u8>, Fault>
-    ensures text { IfOk result (λ t. IsText (S.folder store.old) (Migrate file.now) t.items) }
+    ensures text { IfOk result (λ t. IsTextFor (S.folder store.old) (Migrate file.now) t.items) }
     ensures fault { IfErr result (λ f. Hinders (Migrate file.now) (S.folder store.old) (S.folder store.new) f) }
-    ensures later { IsLater (S.folder store.old) (S.folder store.new) }
+    ensures later { IsLaterFolder (S.folder store.old) (S.folder store.new) }
 {
     match file_bytes(alloc, store, file, PLAN_LIMIT) {
         Ok(source) => migrate_in(alloc, file, source.as_slice()),
@@ -77,9 +77,9 @@ pub fn act_job<S: Store>(
     file: &str,
     script: &str,
 ) -> Result<Vec<u8>, Fault>
-    ensures text { IfOk result (λ t. IsText (S.folder store.old) (Act file.now script.now) t.items) }
+    ensures text { IfOk result (λ t. IsTextFor (S.folder store.old) (Act file.now script.now) t.items) }
     ensures fault { IfErr result (λ f. Hinders (Act file.now script.now) (S.folder store.old) (S.folder store.new) f) }
-    ensures later { IsLater (S.folder store.old) (S.folder store.new) }
+    ensures later { IsLaterFolder (S.folder store.old) (S.folder store.new) }
 {
     let plan = match file_plan(alloc, store, file) {
         Ok(plan) => plan,
@@ -99,7 +99,7 @@ fn file_plan<S: Store>(alloc: Global, store: &mut S, file: &str) -> Result<Legal
         × IsLegalFile source (arc_value p.filed.run.task) p.filed.run.events p.filed.values p.filed.transcript) }
     ensures replay { IfOk result (λ p. IsReplayOf (arc_value p.filed.run.task) (events_of p.filed.run.events) p.replay) }
     ensures fault { IfErr result (λ f. HindersFiles (plan_file file.now ∷ []) (S.folder store.old) (S.folder store.new) f) }
-    ensures later { IsLater (S.folder store.old) (S.folder store.new) }
+    ensures later { IsLaterFolder (S.folder store.old) (S.folder store.new) }
 {
     match file_bytes(alloc, store, file, PLAN_LIMIT) {
         Ok(source) => plan_in(alloc, file, source.as_slice()),

@@ -1,7 +1,7 @@
 //! The top call.
 
 ghost use Rattle.std.specs.Prelude.{◌≡◌, [], ◌∷◌, map, string_bytes, MatchResult};
-ghost use Rattle.sp_outside.specs.Folder.{IsLater};
+ghost use Rattle.sp_outside.specs.Folder.{IsLaterFolder};
 ghost use Rattle.sp_choose.specs.Machines.{uniform, sweep};
 ghost use Rattle.sp_tool.specs.Table.{Answers, Cause, Call};
 ghost use Rattle.sp_tool.specs.Faults.{status_of, line_of};
@@ -60,7 +60,7 @@ fn work<S: Store, K: Sink>(
       out = K.written out.old;
       end = K.written out.new;
     } in MatchResult result (λ _. Cause call Status.Done []) (λ f. Cause call (status_of f) (line_of f)) }
-    ensures later { IsLater (S.folder store.old) (S.folder store.new) }
+    ensures later { IsLaterFolder (S.folder store.old) (S.folder store.new) }
 {
     let job = match read_words(alloc, words) {
         Ok(job) => job,

@@ -3,8 +3,8 @@
 ghost use Rattle.std.specs.Prelude.{◌≡◌, ℕ, List, [], ◌∷◌, ◌≤◌, length, All, IfOk, IfErr, string_bytes};
 ghost use Rattle.sp_theory.specs.Points.{count_of};
 ghost use Rattle.sp_model.specs.Problem.{sizes_of};
-ghost use Rattle.sp_outside.specs.Folder.{IsLater};
-ghost use Rattle.sp_script.specs.Laws.{IsWithin};
+ghost use Rattle.sp_outside.specs.Folder.{IsLaterFolder};
+ghost use Rattle.sp_script.specs.Laws.{IsObservationWithin};
 ghost use Rattle.sp_script.specs.Script.{IsScript};
 ghost use Rattle.sp_tool.specs.Lines.{refused_script_line};
 ghost use Rattle.sp_tool.specs.Kinds.{script_kind_word};
@@ -31,9 +31,9 @@ pub fn file_script<S: Store>(
     model: &Model,
 ) -> Result<Commands, Fault>
     ensures commands { IfOk result (λ cs. (source : List ℕ) × Told ((S.folder store.old).content file.now) source × (length source ≤ script_limit) × IsScript model.now.sights source cs) }
-    ensures within { IfOk result (λ cs. All (IsWithin (count_of (sizes_of model.now.sights))) cs) }
+    ensures within { IfOk result (λ cs. All (IsObservationWithin (count_of (sizes_of model.now.sights))) cs) }
     ensures fault { IfErr result (λ f. HindersBehind (λ m. m ≡ model.now) (script_file file.now ∷ []) (S.folder store.old) (S.folder store.new) f) }
-    ensures later { IsLater (S.folder store.old) (S.folder store.new) }
+    ensures later { IsLaterFolder (S.folder store.old) (S.folder store.new) }
 {
     match file_bytes(alloc, store, file, SCRIPT_LIMIT) {
         Ok(source) => script_in(alloc, file, source.as_slice(), model),
@@ -44,7 +44,7 @@ pub fn file_script<S: Store>(
 /// The commands of these bytes, which are those of this file.
 fn script_in(alloc: Global, file: &str, source: &[u8], model: &Model) -> Result<Commands, Fault>
     ensures commands { IfOk result (λ cs. IsScript model.now.sights source.now cs) }
-    ensures within { IfOk result (λ cs. All (IsWithin (count_of (sizes_of model.now.sights))) cs) }
+    ensures within { IfOk result (λ cs. All (IsObservationWithin (count_of (sizes_of model.now.sights))) cs) }
     ensures fault { IfErr result (λ f. TellsReason (λ m. m ≡ model.now) (script_file file.now) source.now f) }
 {
     // what is known of each model

@@ -3,7 +3,7 @@
 ghost use Rattle.std.specs.Prelude.{◌≡◌, ◌≤◌, ◌∷◌, [], All, IfOk, string_bytes, map};
 ghost use Rattle.sp_theory.specs.Points.{count_of};
 ghost use Rattle.sp_model.specs.Problem.{sizes_of};
-ghost use Rattle.sp_script.specs.Laws.{IsWithin};
+ghost use Rattle.sp_script.specs.Laws.{IsObservationWithin};
 ghost use Rattle.sp_choose.specs.Machines.{uniform, sweep};
 ghost use Rattle.sp_words.specs.declared.job.PlanWords.{PlanWords};
 ghost use Rattle.sp_words.specs.Jobs.{ArePlanNumbers};
@@ -97,7 +97,7 @@ pub fn script_plan_text(
     commands: Commands,
 ) -> Result<Vec<u8>, NoMemory>
     requires words { ArePlanNumbers words.now }
-    requires commands { All (IsWithin (count_of (sizes_of model.sights))) commands }
+    requires commands { All (IsObservationWithin (count_of (sizes_of model.sights))) commands }
     requires choosers { map (λ b. machine b) choosers.items ≡ uniform ∷ sweep 0 ∷ [] }
     ensures { IfOk result (λ text. IsScriptPlanText model words.now commands text.items) }
 {

@@ -6,7 +6,7 @@ use Rattle.std.proofs.lemmas.List.Quantifiers.{position-Some}
 use Rattle.sp_dd.specs.Func.{Shape, IsScope, size_of}
 use Rattle.sp_dd.proofs.ScopeLemmas.{AllSizes-get_or}
 use Rattle.sp_model.specs.declared.parts.Decl.{Decl}
-use Rattle.sp_model.specs.Problem.{no_decl, sizes_of, doubled}
+use Rattle.sp_model.specs.Problem.{no_decl, sizes_of, twice_each}
 use Rattle.sp_model.proofs.SlotPoints.{size-unprimed, size-primed, size-seen, length-doubled}
 use Rattle.sp_model.proofs.Counts.{length-sizes_of}
 use Rattle.sp_trees.specs.declared.env.Env.{Env}
@@ -35,7 +35,7 @@ slot_for env is_primed p h = go p is_primed h
     js : List ℕ
     js = sizes_of env.sights
 
-    long : length (doubled ks ++ js) ≡ 2 * length env.variables + length env.sights
+    long : length (twice_each ks ++ js) ≡ 2 * length env.variables + length env.sights
     long = let a = length-doubled ks js in let b = length-sizes_of env.variables in let d = length-sizes_of env.sights in omega arith
 
     go : (p : Place) (b : Bool) → IsPlace env p → IsSlot (shape_for env.variables env.sights) (slot_of env b p) (length (values_of env p))
@@ -48,7 +48,7 @@ slot_for env is_primed p h = go p is_primed h
         let e = size-primed ks js i (omega arith) in
         record { within = (let w = long in omega arith); size = sym (e ∙ size_at env.variables i h) }
     go (Sight j) b h =
-        record { within = (let w = long in omega arith); size = sym (ap (λ n. get_or (doubled ks ++ js) (2 * n + j) 0) (sym (length-sizes_of env.variables)) ∙ size-seen ks js j ∙ size_at env.sights j h) }
+        record { within = (let w = long in omega arith); size = sym (ap (λ n. get_or (twice_each ks ++ js) (2 * n + j) 0) (sym (length-sizes_of env.variables)) ∙ size-seen ks js j ∙ size_at env.sights j h) }
 
 pub slot_is : (env : Env) (is_primed : Bool) (p : Place) → IsEnv env → IsPlace env p → IsSlot env.scope (slot_of env is_primed p) (length (values_of env p))
 slot_is env is_primed p e h = subst (λ (s : Shape). IsSlot s (slot_of env is_primed p) (length (values_of env p))) (sym e.shape) (slot_for env is_primed p h)

@@ -17,30 +17,30 @@ use Rattle.sp_trees.specs.declared.lists.Op.{Op}
 use Rattle.sp_trees.specs.declared.lists.Op.TheVariants as op
 use Rattle.sp_trees.specs.Slots.{has}
 use Rattle.sp_trees.specs.Conditions.{is_within, is_product_whole}
-use Rattle.sp_trees.specs.Lists.{most, checked, combined, at_bracket, joined}
+use Rattle.sp_trees.specs.Lists.{greatest_partial, partial_within_limit, result_of_operation, at_bracket, result_of_step}
 use Rattle.sp_trees.specs.Good.{IsFit, IsGood}
 use Rattle.sp_trees.proofs.ConditionLemmas.{all_at}
 
 -- ---- small
 
-within_small : (f : Func) → IsScope f.shape → is_within most f ≡ true → Everywhere f (λ v. unsigned_abs v ≤ 10 ^ 18)
+within_small : (f : Func) → IsScope f.shape → is_within greatest_partial f ≡ true → Everywhere f (λ v. unsigned_abs v ≤ 10 ^ 18)
 within_small f c h x w = small (value_of f x) (all_at _ f c h x w)
   where
     small : (v : ℤ) → (int_le (neg_ℤ (pos (10 ^ 18))) v && int_le v (pos (10 ^ 18))) ≡ true → unsigned_abs v ≤ 10 ^ 18
     small v e = grind (arith, ints)
 
-checked_fit : (s : Shape) (f : Func) → IsScope s → f.shape ≡ s → IfOk (checked f) (IsFit s)
-checked_fit s f c e = go (is_within most f) refl
+checked_fit : (s : Shape) (f : Func) → IsScope s → f.shape ≡ s → IfOk (partial_within_limit f) (IsFit s)
+checked_fit s f c e = go (is_within greatest_partial f) refl
   where
-    go : (b : Bool) → is_within most f ≡ b → IfOk (if b then Ok f else Err kind.TooLarge) (IsFit s)
+    go : (b : Bool) → is_within greatest_partial f ≡ b → IfOk (if b then Ok f else Err kind.TooLarge) (IsFit s)
     go true h = record { shape = e; small = within_small f (subst IsScope (sym e) c) h }
     go false h = tt
 
-combined_fit : (s : Shape) (o : Op) (f g : Func) → IsScope s → IsFit s f → IfOk (combined o f g) (IsFit s)
+combined_fit : (s : Shape) (o : Op) (f g : Func) → IsScope s → IsFit s f → IfOk (result_of_operation o f g) (IsFit s)
 combined_fit s op.Sum f g c h = checked_fit s (plus f g) c h.shape
 combined_fit s op.Product f g c h = go (is_product_whole f g)
   where
-    go : (b : Bool) → IfOk (if b then checked (product_floor f g) else Err kind.TooFine) (IsFit s)
+    go : (b : Bool) → IfOk (if b then partial_within_limit (product_floor f g) else Err kind.TooFine) (IsFit s)
     go true = checked_fit s (product_floor f g) c h.shape
     go false = tt
 
@@ -48,8 +48,8 @@ bracket_keeps : (P : Func → Type 0) (at : ℕ) (r : Result Func ModelKind) →
 bracket_keeps P at (Ok f) h = h
 bracket_keeps P at (Err e) h = tt
 
-pub joined_fit : (s : Shape) (o : Op) (at : ℕ) → IsScope s → (f g : Func) → IsFit s f → IsFit s g → IfOk (joined o at f g) (IsFit s)
-joined_fit s o at c f g h k = bracket_keeps (IsFit s) at (combined o f g) (combined_fit s o f g c h)
+pub joined_fit : (s : Shape) (o : Op) (at : ℕ) → IsScope s → (f g : Func) → IsFit s f → IsFit s g → IfOk (result_of_step o at f g) (IsFit s)
+joined_fit s o at c f g h k = bracket_keeps (IsFit s) at (result_of_operation o f g) (combined_fit s o f g c h)
 
 -- ---- independent
 
@@ -61,7 +61,7 @@ independent s h slot c e x v w l =
 across : (s : Shape) (f : Func) (slot : ℕ) → f.shape ≡ s → IsIndependentOf f slot → (x : List ℕ) (v : ℕ) → IsPoint s.sizes x → v < size_of s slot → value_of f (slice_set x slot v) ≡ value_of f x
 across s f slot e h x v w l = h x v (subst (λ (t : Shape). IsPoint t.sizes x) (sym e) w) (subst (λ (t : Shape). v < size_of t slot) (sym e) l)
 
-combined_free : (s : Shape) (o : Op) (f g : Func) (slot : ℕ) → IsScope s → f.shape ≡ s → g.shape ≡ s → IsIndependentOf f slot → IsIndependentOf g slot → IfOk (combined o f g) (λ r. IsIndependentOf r slot)
+combined_free : (s : Shape) (o : Op) (f g : Func) (slot : ℕ) → IsScope s → f.shape ≡ s → g.shape ≡ s → IsIndependentOf f slot → IsIndependentOf g slot → IfOk (result_of_operation o f g) (λ r. IsIndependentOf r slot)
 combined_free s o f g slot c ef eg hf hg = go o
   where
     scope : IsScope f.shape
@@ -70,18 +70,18 @@ combined_free s o f g slot c ef eg hf hg = go o
     again : g.shape ≡ f.shape
     again = eg ∙ sym ef
 
-    checked_free : (r : Func) → IsIndependentOf r slot → IfOk (checked r) (λ r. IsIndependentOf r slot)
-    checked_free r h = step (is_within most r)
+    checked_free : (r : Func) → IsIndependentOf r slot → IfOk (partial_within_limit r) (λ r. IsIndependentOf r slot)
+    checked_free r h = step (is_within greatest_partial r)
       where
         step : (b : Bool) → IfOk (if b then Ok r else Err kind.TooLarge) (λ r. IsIndependentOf r slot)
         step true = h
         step false = tt
 
-    go : (o : Op) → IfOk (combined o f g) (λ r. IsIndependentOf r slot)
+    go : (o : Op) → IfOk (result_of_operation o f g) (λ r. IsIndependentOf r slot)
     go op.Sum = checked_free (plus f g) (independent f.shape _ slot scope (λ x v w l. (λ i. hf x v w l i +ℤ across f.shape g slot again hg x v w l i)))
     go op.Product = step (is_product_whole f g)
       where
-        step : (b : Bool) → IfOk (if b then checked (product_floor f g) else Err kind.TooFine) (λ r. IsIndependentOf r slot)
+        step : (b : Bool) → IfOk (if b then partial_within_limit (product_floor f g) else Err kind.TooFine) (λ r. IsIndependentOf r slot)
         step true = checked_free (product_floor f g) (independent f.shape _ slot scope (λ x v w l. (λ i. floor_div (hf x v w l i *ℤ across f.shape g slot again hg x v w l i) ticks)))
         step false = tt
 
@@ -89,10 +89,10 @@ both_good : (s : Shape) (m : Slots) (r : Result Func ModelKind) → IfOk r (IsFi
 both_good s m (Ok f) h k = record { fit = h; free = k }
 both_good s m (Err e) h k = tt
 
-pub joined_good : (s : Shape) (m : Slots) (o : Op) (at : ℕ) → IsScope s → (f g : Func) → IsGood s m f → IsGood s m g → IfOk (joined o at f g) (IsGood s m)
+pub joined_good : (s : Shape) (m : Slots) (o : Op) (at : ℕ) → IsScope s → (f g : Func) → IsGood s m f → IsGood s m g → IfOk (result_of_step o at f g) (IsGood s m)
 joined_good s m o at c f g h k =
-    bracket_keeps (IsGood s m) at (combined o f g)
-    (both_good s m (combined o f g) (combined_fit s o f g c h.fit) (λ slot l n. combined_free s o f g slot c h.fit.shape k.fit.shape (h.free slot l n) (k.free slot l n)))
+    bracket_keeps (IsGood s m) at (result_of_operation o f g)
+    (both_good s m (result_of_operation o f g) (combined_fit s o f g c h.fit) (λ slot l n. combined_free s o f g slot c h.fit.shape k.fit.shape (h.free slot l n) (k.free slot l n)))
 
 pub everywhere_good : (s : Shape) (m : Slots) (v : ℤ) → IsScope s → unsigned_abs v ≤ 10 ^ 18 → IsGood s m (everywhere s v)
 everywhere_good s m v c h = record {

@@ -10,7 +10,7 @@ use Rattle.std.proofs.lemmas.List.FromFn.{length-range_with_len}
 use Rattle.sp_lex.specs.declared.lexeme.Span.{Span}
 use Rattle.sp_lex.specs.declared.decimal.NumError.{NumError}
 use Rattle.sp_lex.specs.declared.decimal.NumError.TheVariants as fault
-use Rattle.sp_lex.specs.Decimal.{Decimal, most_ticks, signed, limited, magnitude_of, is_whole_ticks, decimal_of, ticks_of_decimal, ticks_of}
+use Rattle.sp_lex.specs.Decimal.{Decimal, most_ticks, signed_number, number_within_limit, magnitude_of, is_whole_ticks, decimal_of, ticks_of_decimal, ticks_of}
 use Rattle.sp_syntax.specs.declared.text.Tree.{Tree, roll-Tree}
 use Rattle.sp_syntax.specs.declared.text.Tree.TheOpen.{Tree-F}
 use Rattle.sp_syntax.specs.declared.text.Tree.TheFolds.{fold-roll-Tree, fold-roll-Branch, map-Tree, map-Branch, ind-Tree, ind-Branch}
@@ -31,12 +31,12 @@ use Rattle.sp_trees.specs.declared.nodes.Place.{Place}
 use Rattle.sp_trees.specs.Refusals.{refused_if}
 use Rattle.sp_trees.specs.Slots.{none, one, has, is_among}
 use Rattle.sp_trees.specs.Words.{text, name_span}
-use Rattle.sp_trees.specs.Dds.{found}
-use Rattle.sp_trees.specs.Judged.{refusal, inside, inside_branches, mentioned, mentioned_in_branches}
+use Rattle.sp_trees.specs.Dds.{dd_of_name}
+use Rattle.sp_trees.specs.Judged.{refusal, inside, inside_branches, mentions_of_trees, mentioned_in_branches}
 use Rattle.sp_trees.specs.Single.{number, number_by, reference, reference_by}
 use Rattle.sp_trees.specs.Lists.{neutral, or_neutral, steps, list_by, list_of}
-use Rattle.sp_trees.specs.Nodes.{IsPlace, values_of, place_of, branching_on, value_rows, lists_all, node_rows, parts_from, chosen_by, chosen, node_by as node_outcome, known_node, IsSmallValue}
-use Rattle.sp_trees.specs.Judge.{Branched, listed, node, node_by, tree_step, branch_step, judged, branched}
+use Rattle.sp_trees.specs.Nodes.{IsPlace, values_of, place_of, branching_on, value_rows, lists_all, node_rows, parts_from, chosen_by, choice_between, node_by as node_outcome, known_node, IsSmallValue}
+use Rattle.sp_trees.specs.Judge.{Branched, listed_branch, node, node_by, tree_step, branch_step, judgement, judgement_of_branch}
 use Rattle.sp_trees.specs.Good.{IsGood, IfGood, IsEnv}
 use Rattle.sp_trees.proofs.GoodLemmas.{everywhere_good, joined_good, good_more, chosen_good}
 use Rattle.sp_trees.proofs.MentionLemmas.{IsPart, none_among, one_among, one_has, all_among, part_first, part_item, lesser_none, first_none, ok_of}
@@ -57,15 +57,15 @@ ticks_small : (word : List ℕ) → IfOk (ticks_of word) (λ v. unsigned_abs v �
 unfolding ticks_of
 ticks_small word = go (decimal_of word)
   where
-    small : (negative : Bool) (m : ℕ) → m ≤ 10 ^ 18 → unsigned_abs (signed negative m) ≤ 10 ^ 18
+    small : (negative : Bool) (m : ℕ) → m ≤ 10 ^ 18 → unsigned_abs (signed_number negative m) ≤ 10 ^ 18
     small true m h = omega (arith, ints)
     small false m h = omega (arith, ints)
 
-    short : (negative : Bool) (m : ℕ) (b : Bool) → nat_lt most_ticks m ≡ b → IfOk (if b then Err fault.TooLarge else Ok (signed negative m)) (λ v. unsigned_abs v ≤ 10 ^ 18)
+    short : (negative : Bool) (m : ℕ) (b : Bool) → nat_lt most_ticks m ≡ b → IfOk (if b then Err fault.TooLarge else Ok (signed_number negative m)) (λ v. unsigned_abs v ≤ 10 ^ 18)
     short negative m true e = tt
     short negative m false e = small negative m (grind (arith, nat_tests))
 
-    whole : (d : Decimal) (b : Bool) → IfOk (if b then limited d.negative (magnitude_of d) else Err fault.TooFine) (λ v. unsigned_abs v ≤ 10 ^ 18)
+    whole : (d : Decimal) (b : Bool) → IfOk (if b then number_within_limit d.negative (magnitude_of d) else Err fault.TooFine) (λ v. unsigned_abs v ≤ 10 ^ 18)
     whole d true = short d.negative (magnitude_of d) (nat_lt most_ticks (magnitude_of d)) refl
     whole d false = tt
 
@@ -83,17 +83,17 @@ number_holds s allowed source word c = go (ticks_of (text source word)) (ticks_s
 
 -- ---- references
 
-dd_good : (s : Shape) (name : List ℕ) (ds : List (List ℕ × Dd)) → All (λ d. IsGood s d.1.mentions d.1.func) ds → IfSome (found name ds) (λ d. IsGood s d.mentions d.func)
+dd_good : (s : Shape) (name : List ℕ) (ds : List (List ℕ × Dd)) → All (λ d. IsGood s d.1.mentions d.1.func) ds → IfSome (dd_of_name name ds) (λ d. IsGood s d.mentions d.func)
 dd_good s name [] h = tt
 dd_good s name (d ∷ ds) h = go (bytes_eq name d.0) (dd_good s name ds (λ k e l. h (suc k) e (omega arith)))
   where
-    go : (b : Bool) → IfSome (found name ds) (λ d. IsGood s d.mentions d.func)
+    go : (b : Bool) → IfSome (dd_of_name name ds) (λ d. IsGood s d.mentions d.func)
         → IfSome (option_map (λ d. d.1) (cond b (Some d) (find (λ d. bytes_eq name d.0) ds))) (λ d. IsGood s d.mentions d.func)
     go true k = h 0 d (omega arith)
     go false k = k
 
 reference_holds : (s : Shape) (dds : List (List ℕ × Dd)) (allowed : Slots) (source : List ℕ) (word : Span) → All (λ d. IsGood s d.1.mentions d.1.func) dds → Holds s allowed (reference dds allowed source word)
-reference_holds s dds allowed source word h = go (found (text source word) dds) (dd_good s (text source word) dds h)
+reference_holds s dds allowed source word h = go (dd_of_name (text source word) dds) (dd_good s (text source word) dds h)
   where
     go : (o : Option Dd) → IfSome o (λ d. IsGood s d.mentions d.func) → Holds s allowed (reference_by allowed word.start o)
     go None k = (tt, tt)
@@ -120,7 +120,7 @@ list_holds : (s : Shape) (allowed : Slots) (o : Op) (at : ℕ) (js : List Judged
 list_holds s allowed o at js c h = go (inside js) refl
   where
     all : Slots
-    all = mentioned js
+    all = mentions_of_trees js
 
     good : All (λ j. IfOk j.outcome (IsGood s all)) js
     good k d l = good_wider s _ all _ (part_item (λ (j : Judged). j.mentions) none js k d l) (h k d l).0
@@ -192,11 +192,11 @@ known_holds s allowed n ls c within count h = go (node_rows allowed n ls) refl
     go (Some r) e = (tt, tt)
     go None e = (
       chosen_or (parts_from n.left ls [] (range_with_len 0 n.count)) (parts_keep (IsGood s all) n.left ls [] (range_with_len 0 n.count) (λ k d l. absurd (omega arith)) good),
-      if_ok (is_among all allowed ≡ true) (chosen s n ls) (among e),
+      if_ok (is_among all allowed ≡ true) (choice_between s n ls) (among e),
     )
 
 -- each listed branch holds what its judged tree holds, and has a small number
-pub listed_holds : (s : Shape) (allowed : Slots) (source : List ℕ) (values : List (List ℕ)) (bs : List Branched) → All (λ b. Holds s allowed b.judged) bs → All (λ l. Holds s allowed l.judged) (map (listed source values) bs)
+pub listed_holds : (s : Shape) (allowed : Slots) (source : List ℕ) (values : List (List ℕ)) (bs : List Branched) → All (λ b. Holds s allowed b.judged) bs → All (λ l. Holds s allowed l.judged) (map (listed_branch source values) bs)
 listed_holds s allowed source values [] h k d l = absurd (omega arith)
 listed_holds s allowed source values (b ∷ bs) h zero d l = h 0 b (omega arith)
 listed_holds s allowed source values (b ∷ bs) h (suc k) d l = listed_holds s allowed source values bs (λ i e m. h (suc i) e (omega arith)) k d (omega arith)
@@ -209,36 +209,36 @@ node_holds env source allowed is_primed left word bs e h = go (place_of env (tex
     go None w = (tt, tt)
     go (Some p) w =
         let is = slot_is env is_primed p e w in
-        known_holds env.scope allowed (branching_on env is_primed p left.start word.start) (map (listed source (values_of env p)) bs) e.scope is.within is.size
+        known_holds env.scope allowed (branching_on env is_primed p left.start word.start) (map (listed_branch source (values_of env p)) bs) e.scope is.within is.size
         (listed_holds env.scope allowed source (values_of env p) bs h)
 
 -- ---- trees
 
 module _ (env : Env) (source : List ℕ) (allowed : Slots) (e : IsEnv env) where
   abbrev OfTree : Tree → Type 0
-  OfTree t = Holds env.scope allowed (judged env source allowed t)
+  OfTree t = Holds env.scope allowed (judgement env source allowed t)
 
   abbrev OfBranch : Branch → Type 0
-  OfBranch b = Holds env.scope allowed (branched env source allowed b).judged
+  OfBranch b = Holds env.scope allowed (judgement_of_branch env source allowed b).judged
 
-  trees_in : (es : List ((t : Tree) × OfTree t)) → All (Holds env.scope allowed) (map (judged env source allowed) (map (λ e. e.0) es))
+  trees_in : (es : List ((t : Tree) × OfTree t)) → All (Holds env.scope allowed) (map (judgement env source allowed) (map (λ e. e.0) es))
   trees_in [] k d l = absurd (omega arith)
   trees_in (x ∷ es) zero d l = x.1
   trees_in (x ∷ es) (suc k) d l = trees_in es k d (omega arith)
 
-  branches_in : (es : List ((b : Branch) × OfBranch b)) → All (λ b. Holds env.scope allowed b.judged) (map (branched env source allowed) (map (λ e. e.0) es))
+  branches_in : (es : List ((b : Branch) × OfBranch b)) → All (λ b. Holds env.scope allowed b.judged) (map (judgement_of_branch env source allowed) (map (λ e. e.0) es))
   branches_in [] k d l = absurd (omega arith)
   branches_in (x ∷ es) zero d l = x.1
   branches_in (x ∷ es) (suc k) d l = branches_in es k d (omega arith)
 
   layer : (y : Tree-F ((t : Tree) × OfTree t) ((b : Branch) × OfBranch b))
-      → Holds env.scope allowed (tree_step env source allowed (map-Tree Tree Branch Judged Branched (judged env source allowed) (branched env source allowed) (map-Tree _ _ Tree Branch (λ e. e.0) (λ e. e.0) y)))
+      → Holds env.scope allowed (tree_step env source allowed (map-Tree Tree Branch Judged Branched (judgement env source allowed) (judgement_of_branch env source allowed) (map-Tree _ _ Tree Branch (λ e. e.0) (λ e. e.0) y)))
   layer (Tree-F.Number left word right) = number_holds env.scope allowed source word e.scope
   layer (Tree-F.Reference left word right) = reference_holds env.scope env.dds allowed source word e.dds
-  layer (Tree-F.Node left word es right) = node_holds env source allowed false left word (map (branched env source allowed) (map (λ e. e.0) es)) e (branches_in es)
-  layer (Tree-F.PrimedNode left word es right) = node_holds env source allowed true left word (map (branched env source allowed) (map (λ e. e.0) es)) e (branches_in es)
-  layer (Tree-F.Sum left plus es right) = list_holds env.scope allowed op.Sum left.start (map (judged env source allowed) (map (λ e. e.0) es)) e.scope (trees_in es)
-  layer (Tree-F.Product left star es right) = list_holds env.scope allowed op.Product left.start (map (judged env source allowed) (map (λ e. e.0) es)) e.scope (trees_in es)
+  layer (Tree-F.Node left word es right) = node_holds env source allowed false left word (map (judgement_of_branch env source allowed) (map (λ e. e.0) es)) e (branches_in es)
+  layer (Tree-F.PrimedNode left word es right) = node_holds env source allowed true left word (map (judgement_of_branch env source allowed) (map (λ e. e.0) es)) e (branches_in es)
+  layer (Tree-F.Sum left plus es right) = list_holds env.scope allowed op.Sum left.start (map (judgement env source allowed) (map (λ e. e.0) es)) e.scope (trees_in es)
+  layer (Tree-F.Product left star es right) = list_holds env.scope allowed op.Product left.start (map (judgement env source allowed) (map (λ e. e.0) es)) e.scope (trees_in es)
 
   pub tree_holds : (t : Tree) → OfTree t
   tree_holds = ind-Tree OfTree OfBranch
@@ -250,17 +250,17 @@ module _ (env : Env) (source : List ℕ) (allowed : Slots) (e : IsEnv env) where
       (λ x y is. tree_holds (roll-Tree x))
       (λ x y is. subst (λ z. OfBranch (roll-Branch z)) is (subst (λ (b : Branched). Holds env.scope allowed b.judged) (sym (fold-roll-Branch Judged Branched (tree_step env source allowed) branch_step (map-Branch _ _ Tree Branch (λ e. e.0) (λ e. e.0) y))) y.tree.1))
 
-  pub trees_good : (ts : List Tree) → All (IfGood env.scope) (map (judged env source allowed) ts)
+  pub trees_good : (ts : List Tree) → All (IfGood env.scope) (map (judgement env source allowed) ts)
   trees_good [] k d l = absurd (omega arith)
   trees_good (t ∷ ts) zero d l = (tree_holds t).0
   trees_good (t ∷ ts) (suc k) d l = trees_good ts k d (omega arith)
 
-  pub branches_good : (values : List (List ℕ)) (bs : List Branch) → All (λ l. IfGood env.scope l.judged) (map (λ b. listed source values (branched env source allowed b)) bs)
+  pub branches_good : (values : List (List ℕ)) (bs : List Branch) → All (λ l. IfGood env.scope l.judged) (map (λ b. listed_branch source values (judgement_of_branch env source allowed b)) bs)
   branches_good values [] k d l = absurd (omega arith)
   branches_good values (b ∷ bs) zero d l = (branch_holds b).0
   branches_good values (b ∷ bs) (suc k) d l = branches_good values bs k d (omega arith)
 
-pub branches_small : (env : Env) (source : List ℕ) (allowed : Slots) (values : List (List ℕ)) (bs : List Branch) → length values ≤ 64 → All IsSmallValue (map (λ b. listed source values (branched env source allowed b)) bs)
+pub branches_small : (env : Env) (source : List ℕ) (allowed : Slots) (values : List (List ℕ)) (bs : List Branch) → length values ≤ 64 → All IsSmallValue (map (λ b. listed_branch source values (judgement_of_branch env source allowed b)) bs)
 branches_small env source allowed values [] h k d l = absurd (omega arith)
-branches_small env source allowed values (b ∷ bs) h zero d l = number_small values (text source (branched env source allowed b).word) h
+branches_small env source allowed values (b ∷ bs) h zero d l = number_small values (text source (judgement_of_branch env source allowed b).word) h
 branches_small env source allowed values (b ∷ bs) h (suc k) d l = branches_small env source allowed values bs h k d (omega arith)

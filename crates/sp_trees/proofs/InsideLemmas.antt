@@ -5,7 +5,7 @@ use Rattle.sp_syntax.specs.declared.text.Tree.{Tree, out-Tree}
 use Rattle.sp_trees.specs.declared.refusal.Refusal.{Refusal}
 use Rattle.sp_trees.specs.declared.slots.Slots.{Slots}
 use Rattle.sp_trees.specs.declared.env.Env.{Env}
-use Rattle.sp_trees.specs.Rows.{IsPart, IsInside, itself, within, WordRow, ValueRow, OwnRow, TreeRow}
+use Rattle.sp_trees.specs.Rows.{IsPart, IsSubtree, itself, within, TreeWordRow, ValueRow, OwnRow, TreeRow}
 use Rattle.sp_trees.proofs.Parts.{by_parts}
 
 module _ (env : Env) (source : List ℕ) (allowed : Slots) where
@@ -13,23 +13,23 @@ module _ (env : Env) (source : List ℕ) (allowed : Slots) where
   Row t r = TreeRow env source allowed t r
 
   abbrev Mark : Tree → Refusal → Type 0
-  Mark u q = WordRow env source allowed (out-Tree u) q ⊎ ValueRow env source (out-Tree u) q
+  Mark u q = TreeWordRow env source allowed (out-Tree u) q ⊎ ValueRow env source (out-Tree u) q
 
   -- no row holds inside the parts of a tree
   abbrev pub HasQuietParts : Tree → Type 0
   HasQuietParts t = (s : Tree) → IsPart s t → (r : Refusal) → ¬ Row s r
 
   abbrev IsUnmarked : Tree → Type 0
-  IsUnmarked s = ((r : Refusal) → ¬ Row s r) → (u : Tree) → IsInside u s → (q : Refusal) → ¬ Mark u q
+  IsUnmarked s = ((r : Refusal) → ¬ Row s r) → (u : Tree) → IsSubtree u s → (q : Refusal) → ¬ Mark u q
 
   -- where no row holds of a tree, nothing inside it is marked, whether or not it counts
   unmarked : (s : Tree) → IsUnmarked s
   unmarked = by_parts IsUnmarked each
     where
-      deep : (s : Tree) → ((p : Tree) → IsPart p s → IsUnmarked p) → ((r : Refusal) → ¬ Row s r) → (p u : Tree) → IsPart p s → IsInside u p → (q : Refusal) → ¬ Mark u q
+      deep : (s : Tree) → ((p : Tree) → IsPart p s → IsUnmarked p) → ((r : Refusal) → ¬ Row s r) → (p u : Tree) → IsPart p s → IsSubtree u p → (q : Refusal) → ¬ Mark u q
       deep s parts h p u w i q m = parts p w (λ r k. h r (k.0, within p w k.1, k.2)) u i q m
 
-      here : (s : Tree) → ((r : Refusal) → ¬ Row s r) → ((p u : Tree) → IsPart p s → IsInside u p → (q : Refusal) → ¬ Mark u q) → (q : Refusal) → ¬ Mark s q
+      here : (s : Tree) → ((r : Refusal) → ¬ Row s r) → ((p u : Tree) → IsPart p s → IsSubtree u p → (q : Refusal) → ¬ Mark u q) → (q : Refusal) → ¬ Mark s q
       here s h below q (inl a) = h q (s, itself refl, inl a)
       here s h below q (inr v) = h q (s, itself refl, inr (v, below))
 
@@ -39,7 +39,7 @@ module _ (env : Env) (source : List ℕ) (allowed : Slots) where
 
   -- the rows of a tree: on its words, inside its parts, or on its values where no row holds inside its parts
   abbrev pub Split : Tree → Refusal → Type 0
-  Split t r = WordRow env source allowed (out-Tree t) r ⊎ (((s : Tree) × IsPart s t × Row s r) ⊎ (ValueRow env source (out-Tree t) r × HasQuietParts t))
+  Split t r = TreeWordRow env source allowed (out-Tree t) r ⊎ (((s : Tree) × IsPart s t × Row s r) ⊎ (ValueRow env source (out-Tree t) r × HasQuietParts t))
 
   pub to_row : (t : Tree) (r : Refusal) → Split t r → Row t r
   to_row t r (inl a) = (t, itself refl, inl a)
@@ -50,7 +50,7 @@ module _ (env : Env) (source : List ℕ) (allowed : Slots) where
   own t r (inl a) = inl a
   own t r (inr (v, below)) = inr (inr (v, λ s w q k. hidden s w q k.0 k.1 k.2))
     where
-      hidden : (s : Tree) → IsPart s t → (q : Refusal) (u : Tree) → IsInside u s → OwnRow env source allowed u q → ⊥
+      hidden : (s : Tree) → IsPart s t → (q : Refusal) (u : Tree) → IsSubtree u s → OwnRow env source allowed u q → ⊥
       hidden s w q u i (inl a) = below s u w i q (inl a)
       hidden s w q u i (inr (v, b)) = below s u w i q (inr v)
 

@@ -8,7 +8,7 @@ use Rattle.sp_trees.specs.declared.refusal.ModelKind.TheVariants as kind
 use Rattle.sp_trees.specs.declared.judged.Judged.{Judged}
 use Rattle.sp_trees.specs.declared.lists.Op.{Op}
 use Rattle.sp_trees.specs.declared.lists.Op.TheVariants as op
-use Rattle.sp_trees.specs.Lists.{checked, combined, joined, step, then_more, steps}
+use Rattle.sp_trees.specs.Lists.{partial_within_limit, result_of_operation, result_of_step, step, then_more, steps}
 use Rattle.sp_trees.specs.Good.{IsFit, IsGood, IfGood}
 use Rattle.sp_trees.specs.declared.slots.Slots.{Slots}
 use Rattle.sp_trees.proofs.ConditionLemmas.{whole_true, whole_false}
@@ -17,16 +17,16 @@ use Rattle.sp_trees.proofs.GoodLemmas.{joined_fit}
 -- ---- one product
 
 pub product_some : (f g p : Func) (answer : Option Func) (o : Op) → IsScope f.shape → o ≡ op.Product
-    → MatchOption answer (HasPartialTick f g) (λ r. IsProductWhole f g × (r ≡ product_floor f g)) → answer ≡ Some p → checked p ≡ combined o f g
+    → MatchOption answer (HasPartialTick f g) (λ r. IsProductWhole f g × (r ≡ product_floor f g)) → answer ≡ Some p → partial_within_limit p ≡ result_of_operation o f g
 product_some f g p None o c e h n = cc
 product_some f g p (Some q) o c e h n =
     let same : p ≡ product_floor f g = cc in
-    ap checked same ∙ sym (ap (λ a. combined a f g) e ∙ ap (λ b. if b then checked (product_floor f g) else Err kind.TooFine) (whole_true f g c h.0))
+    ap partial_within_limit same ∙ sym (ap (λ a. result_of_operation a f g) e ∙ ap (λ b. if b then partial_within_limit (product_floor f g) else Err kind.TooFine) (whole_true f g c h.0))
 
 pub product_none : (f g : Func) (answer : Option Func) (o : Op) → IsScope f.shape → o ≡ op.Product
-    → MatchOption answer (HasPartialTick f g) (λ r. IsProductWhole f g × (r ≡ product_floor f g)) → answer ≡ None → Err kind.TooFine ≡ combined o f g
+    → MatchOption answer (HasPartialTick f g) (λ r. IsProductWhole f g × (r ≡ product_floor f g)) → answer ≡ None → Err kind.TooFine ≡ result_of_operation o f g
 product_none f g (Some q) o c e h n = cc
-product_none f g None o c e h n = sym (ap (λ a. combined a f g) e ∙ ap (λ b. if b then checked (product_floor f g) else Err kind.TooFine) (whole_false f g c h))
+product_none f g None o c e h n = sym (ap (λ a. result_of_operation a f g) e ∙ ap (λ b. if b then partial_within_limit (product_floor f g) else Err kind.TooFine) (whole_false f g c h))
 
 -- ---- the loop
 
@@ -49,7 +49,7 @@ module _ (o : Op) (at : ℕ) (s : Option Func) (js : List Judged) (i : ℕ) wher
 
 -- ---- what all functions keep
 
-module _ (P : Func → Type 0) (o : Op) (at : ℕ) (keeps : (f g : Func) → P f → P g → IfOk (joined o at f g) P) where
+module _ (P : Func → Type 0) (o : Op) (at : ℕ) (keeps : (f g : Func) → P f → P g → IfOk (result_of_step o at f g) P) where
   pub step_keeps : (s : Option Func) (r : Result Func Refusal) → IfSome s P → IfOk r P → IfOk (step o at s r) P
   step_keeps None (Ok g) h k = k
   step_keeps None (Err e) h k = tt

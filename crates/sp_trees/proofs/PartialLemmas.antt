@@ -18,10 +18,10 @@ use Rattle.sp_trees.specs.declared.judged.Judged.{Judged}
 use Rattle.sp_trees.specs.declared.lists.Op.{Op}
 use Rattle.sp_trees.specs.declared.lists.Op.TheVariants as op
 use Rattle.sp_trees.specs.Conditions.{is_whole, is_within, is_product_whole, all_values}
-use Rattle.sp_trees.specs.Lists.{most, checked, combined, at_bracket, step, then_more, steps}
-use Rattle.sp_trees.specs.Values.{Value, multiplied}
+use Rattle.sp_trees.specs.Lists.{greatest_partial, partial_within_limit, result_of_operation, at_bracket, step, then_more, steps}
+use Rattle.sp_trees.specs.Values.{Value, product_of}
 use Rattle.sp_trees.specs.Good.{IsFit}
-use Rattle.sp_trees.specs.Rows.{IsLeastOf, operation, partial_of, IsFine, IsPartial, IsLarge, PartialRow, ListRow}
+use Rattle.sp_trees.specs.Rows.{IsFirstRefusal, operation, partial_of, IsFine, IsPartial, IsLarge, PartialRow, ListRow}
 use Rattle.sp_trees.proofs.ConditionLemmas.{all_at}
 use Rattle.sp_trees.proofs.GoodLemmas.{joined_fit}
 use Rattle.sp_trees.proofs.LeastLemmas.{least_only}
@@ -66,16 +66,16 @@ module _ (s : Shape) (c : IsScope s) where
   value_made : (f : Func) (h : List ℕ → ℤ) (x : List ℕ) → f.shape ≡ s → IsPoint s.sizes x → value_of (function_of f.shape h) x ≡ h x
   value_made f h x e w = value_of-function_of f.shape h x (scope_some f.shape (subst IsScope (sym e) c)) (subst (λ (t : Shape). IsPoint t.sizes x) (sym e) w)
 
-  checked_outcome : (f : Func) (v : Value) → f.shape ≡ s → ((x : List ℕ) → IsPoint s.sizes x → v x ≡ Some (value_of f x)) → IfOk (checked f) (IsFit s) → Outcome v (checked f)
-  checked_outcome f v e h k = go (is_within most f) refl k
+  checked_outcome : (f : Func) (v : Value) → f.shape ≡ s → ((x : List ℕ) → IsPoint s.sizes x → v x ≡ Some (value_of f x)) → IfOk (partial_within_limit f) (IsFit s) → Outcome v (partial_within_limit f)
+  checked_outcome f v e h k = go (is_within greatest_partial f) refl k
     where
       large : (z : ℤ) → (int_le (neg_ℤ (pos (10 ^ 18))) z && int_le z (pos (10 ^ 18))) ≡ false → 10 ^ 18 < unsigned_abs z
       large z e = grind (arith, ints)
 
-      go : (b : Bool) → is_within most f ≡ b → IfOk (if b then Ok f else Err kind.TooLarge) (IsFit s) → Outcome v (if b then Ok f else Err kind.TooLarge)
+      go : (b : Bool) → is_within greatest_partial f ≡ b → IfOk (if b then Ok f else Err kind.TooLarge) (IsFit s) → Outcome v (if b then Ok f else Err kind.TooLarge)
       go true q fit = record { fit = fit; value = h }
       go false q fit =
-          let found = some_not (λ v. int_le (neg_ℤ (pos most)) v && int_le v (pos most)) f (subst IsScope (sym e) c) q in
+          let found = some_not (λ v. int_le (neg_ℤ (pos greatest_partial)) v && int_le v (pos greatest_partial)) f (subst IsScope (sym e) c) q in
           let here : IsPoint s.sizes found.0 = subst (λ (t : Shape). IsPoint t.sizes found.0) e found.1 in
           record {
             whole = λ x w. (value_of f x, h x w);
@@ -90,12 +90,12 @@ module _ (s : Shape) (c : IsScope s) where
   bracket_back at (Ok f) h = h
   bracket_back at (Err e) h = tt
 
-  pub combined_outcome : (o : Op) (f g : Func) (a b : Value) → Tells f a → Tells g b → Outcome (partial_of o a b) (combined o f g)
+  pub combined_outcome : (o : Op) (f g : Func) (a b : Value) → Tells f a → Tells g b → Outcome (partial_of o a b) (result_of_operation o f g)
   combined_outcome op.Sum f g a b h k =
       checked_outcome (plus f g) (partial_of op.Sum a b) h.fit.shape
       (λ x w. (λ i. operation op.Sum (h.value x w i) (k.value x w i)) ∙ ap (λ z. Some z) (sym (value_made f (λ x. value_of f x +ℤ value_of g x) x h.fit.shape w)))
-      (bracket_back 0 (combined op.Sum f g) (joined_fit s op.Sum 0 c f g h.fit k.fit))
-  combined_outcome op.Product f g a b h k = go (is_product_whole f g) refl (bracket_back 0 (combined op.Product f g) (joined_fit s op.Product 0 c f g h.fit k.fit))
+      (bracket_back 0 (result_of_operation op.Sum f g) (joined_fit s op.Sum 0 c f g h.fit k.fit))
+  combined_outcome op.Product f g a b h k = go (is_product_whole f g) refl (bracket_back 0 (result_of_operation op.Product f g) (joined_fit s op.Product 0 c f g h.fit k.fit))
     where
       z : List ℕ → ℤ
       z x = value_of f x *ℤ value_of g x
@@ -106,12 +106,12 @@ module _ (s : Shape) (c : IsScope s) where
       next_is : (x : List ℕ) (t : Bool) → IsPoint s.sizes x → is_whole (value_of f x *ℤ value_of g x) ≡ t
           → next x ≡ (if t then Some (floor_div (value_of f x *ℤ value_of g x) ticks) else None)
       next_is x t w e =
-          (λ i. multiplied (h.value x w i) (k.value x w i)) ∙ ap (λ (t : Bool). if t then Some (floor_div (value_of f x *ℤ value_of g x) ticks) else None) e
+          (λ i. product_of (h.value x w i) (k.value x w i)) ∙ ap (λ (t : Bool). if t then Some (floor_div (value_of f x *ℤ value_of g x) ticks) else None) e
 
       scope : IsScope f.shape
       scope = subst IsScope (sym h.fit.shape) c
 
-      go : (t : Bool) → is_product_whole f g ≡ t → IfOk (if t then checked (product_floor f g) else Err kind.TooFine) (IsFit s) → Outcome next (if t then checked (product_floor f g) else Err kind.TooFine)
+      go : (t : Bool) → is_product_whole f g ≡ t → IfOk (if t then partial_within_limit (product_floor f g) else Err kind.TooFine) (IsFit s) → Outcome next (if t then partial_within_limit (product_floor f g) else Err kind.TooFine)
       go true e fit =
           checked_outcome (product_floor f g) next h.fit.shape
           (λ x w.
@@ -140,7 +140,7 @@ module _ (s : Shape) (c : IsScope s) where
   only_same S T None to back h = λ r t. h r (back r t)
   only_same S T (Some x) to back h = (to x h.0, λ r t. h.1 r (back r t))
 
-  only_least : (R : Refusal → Type 0) (o : Option Refusal) → IsOnly R o → IsLeastOf R o
+  only_least : (R : Refusal → Type 0) (o : Option Refusal) → IsOnly R o → IsFirstRefusal R o
   only_least R None h = h
   only_least R (Some x) h = least_only R x h.0 h.1
 
@@ -159,8 +159,8 @@ module _ (s : Shape) (c : IsScope s) where
   not_large v h p =
       let z = h p.point p.inside in
       let same : z.0 ≡ p.value = some_is (sym z.1 ∙ p.is) in
-      let small : unsigned_abs p.value ≤ most = subst (λ u. unsigned_abs u ≤ most) same z.2 in
-      let large : most < unsigned_abs p.value = p.large in
+      let small : unsigned_abs p.value ≤ greatest_partial = subst (λ u. unsigned_abs u ≤ greatest_partial) same z.2 in
+      let large : greatest_partial < unsigned_abs p.value = p.large in
       omega arith
     where
       some_is : {a b : ℤ} → Some a ≡ Some b → a ≡ b
@@ -202,14 +202,14 @@ module _ (s : Shape) (c : IsScope s) where
     partial_only f v h (j ∷ js) [] k = absurd k
     partial_only f v h (j ∷ js) (w ∷ ws) ((g, e, t), k) =
         subst (λ r. IsOnly (PartialRow o s at v (w ∷ ws)) (refusal_in (then_more (step o at (Some f) r) (λ f. steps o at (Some f) js)))) (sym e)
-        (next_only v w ws js (combined o f g) (combined_outcome o f g v w h t) (λ h p. partial_only h (partial_of o v w) p js ws k))
+        (next_only v w ws js (result_of_operation o f g) (combined_outcome o f g v w h t) (λ h p. partial_only h (partial_of o v w) p js ws k))
 
     -- the rows on the values of a list
-    pub list_least : (js : List Judged) (ws : List Value) → AreTold js ws → IsLeastOf (ListRow o s at ws) (refusal_in (steps o at None js))
+    pub list_least : (js : List Judged) (ws : List Value) → AreTold js ws → IsFirstRefusal (ListRow o s at ws) (refusal_in (steps o at None js))
     unfolding steps
     list_least [] [] k = λ r n. n
     list_least [] (w ∷ ws) k = absurd k
     list_least (j ∷ js) [] k = absurd k
     list_least (j ∷ js) (w ∷ ws) ((g, e, t), k) =
-        subst (λ r. IsLeastOf (PartialRow o s at w ws) (refusal_in (then_more (step o at None r) (λ f. steps o at (Some f) js)))) (sym e)
+        subst (λ r. IsFirstRefusal (PartialRow o s at w ws) (refusal_in (then_more (step o at None r) (λ f. steps o at (Some f) js)))) (sym e)
         (only_least (PartialRow o s at w ws) (refusal_in (steps o at (Some g) js)) (partial_only g w t js ws k))

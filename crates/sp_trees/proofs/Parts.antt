@@ -5,7 +5,7 @@ use Rattle.sp_syntax.specs.declared.text.Tree.TheOpen.{Tree-F, Branch-F}
 use Rattle.sp_syntax.specs.declared.text.Tree.TheFolds.{map-Tree, map-Branch, ind-Tree}
 use Rattle.sp_syntax.specs.declared.text.Tree.TheViews.{out-roll-Tree, out-roll-Branch}
 use Rattle.sp_syntax.specs.declared.text.Branch.{Branch, out-Branch, roll-Branch}
-use Rattle.sp_trees.specs.Rows.{Among, IsTreeOf, IsPartBy, IsPart}
+use Rattle.sp_trees.specs.Rows.{Among, IsTreeOfBranch, IsPartBy, IsPart}
 
 module _ (P : Tree → Type 0) (each : (t : Tree) → ((s : Tree) → IsPart s t → P s) → P t) where
   abbrev OfBranch : Branch → Type 0
@@ -16,7 +16,7 @@ module _ (P : Tree → Type 0) (each : (t : Tree) → ((s : Tree) → IsPart s t
   trees_have (e ∷ es) s (inl q) = subst P q e.1
   trees_have (e ∷ es) s (inr h) = trees_have es s h
 
-  branches_have : (es : List ((b : Branch) × OfBranch b)) (s : Tree) → Among (IsTreeOf s) (map (λ e. e.0) es) → P s
+  branches_have : (es : List ((b : Branch) × OfBranch b)) (s : Tree) → Among (IsTreeOfBranch s) (map (λ e. e.0) es) → P s
   branches_have [] s h = absurd h
   branches_have (e ∷ es) s (inl q) = subst P q e.1
   branches_have (e ∷ es) s (inr h) = branches_have es s h

@@ -35,13 +35,13 @@ use Rattle.sp_trees.specs.declared.nodes.Branching.{Branching}
 use Rattle.sp_trees.specs.declared.nodes.Place.{Place}
 use Rattle.sp_trees.specs.Slots.{is_among}
 use Rattle.sp_trees.specs.Words.{text, name_span, number_of}
-use Rattle.sp_trees.specs.Dds.{found}
+use Rattle.sp_trees.specs.Dds.{dd_of_name}
 use Rattle.sp_trees.specs.Conditions.{one, is_whole, is_within, is_product_whole}
 use Rattle.sp_trees.specs.Judged.{inside}
 use Rattle.sp_trees.specs.Single.{number, number_by, reference, reference_by}
-use Rattle.sp_trees.specs.Lists.{most, neutral, checked, combined, at_bracket, joined, step, then_more, steps, or_neutral, list_by, list_of}
+use Rattle.sp_trees.specs.Lists.{greatest_partial, neutral, partial_within_limit, result_of_operation, at_bracket, result_of_step, step, then_more, steps, or_neutral, list_by, list_of}
 use Rattle.sp_trees.specs.Nodes.{IsPlace, is_value, values_of, place_of, branching_on, node_rows, part, part_by, branch_at, then_part, parts_from, chosen_by, node_by as node_outcome, known_node}
-use Rattle.sp_trees.specs.Judge.{Branched, listed, node, node_by, tree_step, branch_step, judged, branched}
+use Rattle.sp_trees.specs.Judge.{Branched, listed_branch, node, node_by, tree_step, branch_step, judgement, judgement_of_branch}
 use Rattle.sp_trees.specs.Values as told
 use Rattle.sp_trees.specs.Values.{Value, Valued, tree_value, branch_valued, ValuesAreTheTrees}
 use Rattle.sp_trees.specs.Good.{IsGood, IsEnv}
@@ -67,8 +67,8 @@ floor_whole a q some =
     both a b h k = omega (arith, ints)
 
 abbrev with_op : Op → Option ℤ → Option ℤ → Option ℤ
-with_op op.Sum = told.added
-with_op op.Product = told.multiplied
+with_op op.Sum = told.sum_of
+with_op op.Product = told.product_of
 
 -- a first value
 first_value : (o : Op) (v : ℤ) → with_op o (Some (neutral o)) (Some v) ≡ Some v
@@ -98,17 +98,17 @@ module _ (s : Shape) (c : IsScope s) (x : List ℕ) (w : IsPoint s.sizes x) wher
   value_made : (f : Func) (h : List ℕ → ℤ) → f.shape ≡ s → value_of (function_of f.shape h) x ≡ h x
   value_made f h e = value_of-function_of f.shape h x (scope_some f.shape (subst IsScope (sym e) c)) (subst (λ (t : Shape). IsPoint t.sizes x) (sym e) w)
 
-  checked_has : (f : Func) (v : Option ℤ) → Has v f → IfOk (checked f) (Has v)
-  checked_has f v h = go (is_within most f)
+  checked_has : (f : Func) (v : Option ℤ) → Has v f → IfOk (partial_within_limit f) (Has v)
+  checked_has f v h = go (is_within greatest_partial f)
     where
       go : (b : Bool) → IfOk (if b then Ok f else Err kind.TooLarge) (Has v)
       go true = h
       go false = tt
 
-  combined_has : (o : Op) (f g : Func) (a b : Option ℤ) → Has a f → Has b g → IfOk (combined o f g) (Has (with_op o a b))
+  combined_has : (o : Op) (f g : Func) (a b : Option ℤ) → Has a f → Has b g → IfOk (result_of_operation o f g) (Has (with_op o a b))
   combined_has op.Sum f g a b h k =
-      checked_has (plus f g) (told.added a b)
-      (h.0, (λ i. told.added (h.1 i) (k.1 i)) ∙ ap (λ z. Some z) (sym (value_made f (λ x. value_of f x +ℤ value_of g x) h.0)))
+      checked_has (plus f g) (told.sum_of a b)
+      (h.0, (λ i. told.sum_of (h.1 i) (k.1 i)) ∙ ap (λ z. Some z) (sym (value_made f (λ x. value_of f x +ℤ value_of g x) h.0)))
   combined_has op.Product f g a b h k = go (is_product_whole f g) refl
     where
       z : ℤ
@@ -119,17 +119,17 @@ module _ (s : Shape) (c : IsScope s) (x : List ℕ) (w : IsPoint s.sizes x) wher
           ap is_whole (sym (value_made f (λ x. value_of f x *ℤ value_of g x) h.0))
           ∙ all_at is_whole (function_of f.shape (λ x. value_of f x *ℤ value_of g x)) (subst IsScope (sym h.0) c) e x (subst (λ (t : Shape). IsPoint t.sizes x) (sym h.0) w)
 
-      go : (t : Bool) → is_product_whole f g ≡ t → IfOk (if t then checked (product_floor f g) else Err kind.TooFine) (Has (told.multiplied a b))
+      go : (t : Bool) → is_product_whole f g ≡ t → IfOk (if t then partial_within_limit (product_floor f g) else Err kind.TooFine) (Has (told.product_of a b))
       go true e =
-          checked_has (product_floor f g) (told.multiplied a b) (
+          checked_has (product_floor f g) (told.product_of a b) (
             h.0,
-            (λ i. told.multiplied (h.1 i) (k.1 i)) ∙ ap (λ (t : Bool). if t then Some (floor_div z ticks) else None) (whole e)
+            (λ i. told.product_of (h.1 i) (k.1 i)) ∙ ap (λ (t : Bool). if t then Some (floor_div z ticks) else None) (whole e)
                 ∙ ap (λ z. Some z) (sym (value_made f (λ x. floor_div (value_of f x *ℤ value_of g x) ticks) h.0)),
           )
       go false e = tt
 
-  joined_has : (o : Op) (at : ℕ) (f g : Func) (a b : Option ℤ) → Has a f → Has b g → IfOk (joined o at f g) (Has (with_op o a b))
-  joined_has o at f g a b h k = go (combined o f g) (combined_has o f g a b h k)
+  joined_has : (o : Op) (at : ℕ) (f g : Func) (a b : Option ℤ) → Has a f → Has b g → IfOk (result_of_step o at f g) (Has (with_op o a b))
+  joined_has o at f g a b h k = go (result_of_operation o f g) (combined_has o f g a b h k)
     where
       go : (r : Result Func ModelKind) → IfOk r (Has (with_op o a b)) → IfOk (at_bracket at r) (Has (with_op o a b))
       go (Ok f) p = p
@@ -186,13 +186,13 @@ module _ (s : Shape) (c : IsScope s) (x : List ℕ) (w : IsPoint s.sizes x) wher
   BranchesAgree (b ∷ bs) (v ∷ vs) = (b.word ≡ v.word) × Agrees b.judged.outcome (v.value x) × BranchesAgree bs vs
 
   part_has : (left : ℕ) (source : List ℕ) (names : List (List ℕ)) (k : ℕ) (bs : List Branched) (vs : List Valued) → BranchesAgree bs vs
-      → Agrees (part left (map (listed source names) bs) k) (told.branch_value source names k vs x)
+      → Agrees (part left (map (listed_branch source names) bs) k) (told.branch_value source names k vs x)
   part_has left source names k [] vs h = tt
   part_has left source names k (b ∷ bs) [] h = absurd h
   part_has left source names k (b ∷ bs) (v ∷ vs) h = go (is_value k (number_of names (text source b.word))) (is_value k (number_of names (text source v.word))) (ap (λ t. is_value k (number_of names (text source t))) h.0) (part_has left source names k bs vs h.2)
     where
-      go : (t u : Bool) → t ≡ u → Agrees (part left (map (listed source names) bs) k) (told.branch_value source names k vs x)
-          → Agrees (part_by left (cond t (Some (listed source names b)) (branch_at (map (listed source names) bs) k)))
+      go : (t u : Bool) → t ≡ u → Agrees (part left (map (listed_branch source names) bs) k) (told.branch_value source names k vs x)
+          → Agrees (part_by left (cond t (Some (listed_branch source names b)) (branch_at (map (listed_branch source names) bs) k)))
           (told.value_in x (cond u (Some v) (find (λ b. is_value k (number_of names (text source b.word))) vs)))
       go true true e more = h.1
       go false false e more = more
@@ -240,11 +240,11 @@ module _ (env : Env) (source : List ℕ) (allowed : Slots) (e : IsEnv env) (x : 
   Told = Agrees env.scope e.scope x w
 
   known_has : (n : Branching) (names : List (List ℕ)) (bs : List Branched) (vs : List Valued) → n.slot < length env.scope.sizes → n.count ≡ size_of env.scope n.slot → BranchesAgree env.scope e.scope x w bs vs
-      → Told (known_node env.scope allowed n (map (listed source names) bs)).outcome (told.branch_value source names (slice_index x n.slot) vs x)
+      → Told (known_node env.scope allowed n (map (listed_branch source names) bs)).outcome (told.branch_value source names (slice_index x n.slot) vs x)
   known_has n names bs vs within count h = go (node_rows allowed n ls)
     where
       ls : List Listed
-      ls = map (listed source names) bs
+      ls = map (listed_branch source names) bs
 
       k : ℕ
       k = slice_index x n.slot
@@ -288,16 +288,16 @@ module _ (env : Env) (source : List ℕ) (allowed : Slots) (e : IsEnv env) (x : 
       go (Ok v) = (refl, ap (λ z. Some z) (sym (value_of-function_of env.scope (λ x. v) x (scope_some env.scope e.scope) w)))
       go (Err z) = tt
 
-  dd_shape : (name : List ℕ) (ds : List (List ℕ × Dd)) → All (λ d. IsGood env.scope d.1.mentions d.1.func) ds → IfSome (found name ds) (λ d. d.func.shape ≡ env.scope)
+  dd_shape : (name : List ℕ) (ds : List (List ℕ × Dd)) → All (λ d. IsGood env.scope d.1.mentions d.1.func) ds → IfSome (dd_of_name name ds) (λ d. d.func.shape ≡ env.scope)
   dd_shape name [] h = tt
   dd_shape name (d ∷ ds) h = go (bytes_eq name d.0) (dd_shape name ds (λ k y l. h (suc k) y (omega arith)))
     where
-      go : (b : Bool) → IfSome (found name ds) (λ d. d.func.shape ≡ env.scope) → IfSome (option_map (λ d. d.1) (cond b (Some d) (find (λ d. bytes_eq name d.0) ds))) (λ d. d.func.shape ≡ env.scope)
+      go : (b : Bool) → IfSome (dd_of_name name ds) (λ d. d.func.shape ≡ env.scope) → IfSome (option_map (λ d. d.1) (cond b (Some d) (find (λ d. bytes_eq name d.0) ds))) (λ d. d.func.shape ≡ env.scope)
       go true k = (h 0 d (omega arith)).fit.shape
       go false k = k
 
   reference_has : (word : Span) → Told (reference env.dds allowed source word).outcome (told.dd_value env (text source word) x)
-  reference_has word = go (found (text source word) env.dds) (dd_shape (text source word) env.dds e.dds)
+  reference_has word = go (dd_of_name (text source word) env.dds) (dd_shape (text source word) env.dds e.dds)
     where
       go : (o : Option Dd) → IfSome o (λ d. d.func.shape ≡ env.scope) → Told (reference_by allowed word.start o).outcome (option_map (λ d. value_of d.func x) o)
       go None h = tt
@@ -310,21 +310,21 @@ module _ (env : Env) (source : List ℕ) (allowed : Slots) (e : IsEnv env) (x : 
   -- ---- the fold
 
   abbrev OfTree : Tree → Type 0
-  OfTree t = Told (judged env source allowed t).outcome (tree_value env source t x)
+  OfTree t = Told (judgement env source allowed t).outcome (tree_value env source t x)
 
   abbrev OfBranch : Branch → Type 0
-  OfBranch b = (branched env source allowed b).word ≡ (branch_valued env source b).word × Told (branched env source allowed b).judged.outcome ((branch_valued env source b).value x)
+  OfBranch b = (judgement_of_branch env source allowed b).word ≡ (branch_valued env source b).word × Told (judgement_of_branch env source allowed b).judged.outcome ((branch_valued env source b).value x)
 
-  trees_in : (es : List ((t : Tree) × OfTree t)) → AllAgree env.scope e.scope x w (map (judged env source allowed) (map (λ y. y.0) es)) (map (λ v. v x) (map (tree_value env source) (map (λ y. y.0) es)))
+  trees_in : (es : List ((t : Tree) × OfTree t)) → AllAgree env.scope e.scope x w (map (judgement env source allowed) (map (λ y. y.0) es)) (map (λ v. v x) (map (tree_value env source) (map (λ y. y.0) es)))
   trees_in [] = refl
   trees_in (y ∷ es) = (y.1, trees_in es)
 
-  branches_in : (es : List ((b : Branch) × OfBranch b)) → BranchesAgree env.scope e.scope x w (map (branched env source allowed) (map (λ y. y.0) es)) (map (branch_valued env source) (map (λ y. y.0) es))
+  branches_in : (es : List ((b : Branch) × OfBranch b)) → BranchesAgree env.scope e.scope x w (map (judgement_of_branch env source allowed) (map (λ y. y.0) es)) (map (branch_valued env source) (map (λ y. y.0) es))
   branches_in [] = refl
   branches_in (y ∷ es) = (y.1.0, y.1.1, branches_in es)
 
   layer : (y : Tree-F ((t : Tree) × OfTree t) ((b : Branch) × OfBranch b))
-      → Told (tree_step env source allowed (map-Tree Tree Branch Judged Branched (judged env source allowed) (branched env source allowed) (map-Tree _ _ Tree Branch (λ z. z.0) (λ z. z.0) y))).outcome
+      → Told (tree_step env source allowed (map-Tree Tree Branch Judged Branched (judgement env source allowed) (judgement_of_branch env source allowed) (map-Tree _ _ Tree Branch (λ z. z.0) (λ z. z.0) y))).outcome
       (told.tree_step env source (map-Tree Tree Branch Value Valued (tree_value env source) (branch_valued env source) (map-Tree _ _ Tree Branch (λ z. z.0) (λ z. z.0) y)) x)
   layer (Tree-F.Number left word right) = number_has word
   layer (Tree-F.Reference left word right) = reference_has word
@@ -341,7 +341,7 @@ module _ (env : Env) (source : List ℕ) (allowed : Slots) (e : IsEnv env) (x : 
       let j = fold-roll-Tree Judged Branched (tree_step env source allowed) branch_step (tree_of y) in
       let v = fold-roll-Tree Value Valued (told.tree_step env source) told.branch_step (tree_of y) in
       subst (λ (k : Judged). Told k.outcome (tree_value env source (roll-Tree (tree_of y)) x)) (sym j)
-      (subst (λ (k : Value). Told (tree_step env source allowed (map-Tree Tree Branch Judged Branched (judged env source allowed) (branched env source allowed) (tree_of y))).outcome (k x)) (sym v) (layer y))
+      (subst (λ (k : Value). Told (tree_step env source allowed (map-Tree Tree Branch Judged Branched (judgement env source allowed) (judgement_of_branch env source allowed) (tree_of y))).outcome (k x)) (sym v) (layer y))
 
   abbrev branch_of : Branch-F ((t : Tree) × OfTree t) ((b : Branch) × OfBranch b) → Branch-F Tree Branch
   branch_of y = map-Branch _ _ Tree Branch (λ z. z.0) (λ z. z.0) y
@@ -351,15 +351,15 @@ module _ (env : Env) (source : List ℕ) (allowed : Slots) (e : IsEnv env) (x : 
       let j = fold-roll-Branch Judged Branched (tree_step env source allowed) branch_step (branch_of y) in
       let v = fold-roll-Branch Value Valued (told.tree_step env source) told.branch_step (branch_of y) in
       subst (λ (k : Branched). k.word ≡ (branch_valued env source (roll-Branch (branch_of y))).word × Told k.judged.outcome ((branch_valued env source (roll-Branch (branch_of y))).value x)) (sym j)
-      (subst (λ (k : Valued). y.value ≡ k.word × Told (judged env source allowed y.tree.0).outcome (k.value x)) (sym v) (refl, y.tree.1))
+      (subst (λ (k : Valued). y.value ≡ k.word × Told (judgement env source allowed y.tree.0).outcome (k.value x)) (sym v) (refl, y.tree.1))
 
   tree_has : (t : Tree) → OfTree t
   tree_has = ind-Tree OfTree OfBranch (λ z y is. subst (λ r. OfTree (roll-Tree r)) is (rolled y)) (λ z y is. subst (λ r. OfBranch (roll-Branch r)) is (rolled_branch y))
 
 pub values_told : ValuesAreTheTrees
-values_told env source allowed t e = go (judged env source allowed t).outcome (tree_holds env source allowed e t).0 (λ x w. tree_has env source allowed e x w t)
+values_told env source allowed t e = go (judgement env source allowed t).outcome (tree_holds env source allowed e t).0 (λ x w. tree_has env source allowed e x w t)
   where
-    go : (r : Result Func Refusal) → IfOk r (λ f. IsGood env.scope (judged env source allowed t).mentions f)
+    go : (r : Result Func Refusal) → IfOk r (λ f. IsGood env.scope (judgement env source allowed t).mentions f)
         → ((x : List ℕ) (w : IsPoint env.scope.sizes x) → Agrees env.scope e.scope x w r (tree_value env source t x))
         → IfOk r (λ f. (x : List ℕ) → IsPointOf f x → tree_value env source t x ≡ Some (value_of f x))
     go (Err z) h k = tt

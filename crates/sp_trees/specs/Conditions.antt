@@ -22,9 +22,9 @@ abbrev pub lies_between : ℤ → ℤ → Func → Bool
 lies_between low high f = all_values (λ v. int_le low v && int_le v high) f
 
 -- a magnitude with its sign
-abbrev pub signed : Bool → ℕ → ℤ
-signed true magnitude = neg_ℤ (pos magnitude)
-signed false magnitude = pos magnitude
+abbrev pub signed_magnitude : Bool → ℕ → ℤ
+signed_magnitude true magnitude = neg_ℤ (pos magnitude)
+signed_magnitude false magnitude = pos magnitude
 
 -- no value exceeds the bound in magnitude
 abbrev pub is_within : ℕ → Func → Bool

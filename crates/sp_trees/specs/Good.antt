@@ -2,7 +2,7 @@
 use Rattle.std.specs.Prelude.{◌≡◌, ℕ, ◌<◌, ◌≤◌, ◌^◌, ◌++◌, unsigned_abs, false, List, length, All, IfOk}
 use Rattle.sp_dd.specs.Func.{Shape, Func, IsScope, Everywhere, IsIndependentOf}
 use Rattle.sp_model.specs.declared.parts.Decl.{Decl}
-use Rattle.sp_model.specs.Problem.{sizes_of, doubled}
+use Rattle.sp_model.specs.Problem.{sizes_of, twice_each}
 use Rattle.sp_trees.specs.declared.slots.Slots.{Slots}
 use Rattle.sp_trees.specs.declared.env.Env.{Env}
 use Rattle.sp_trees.specs.declared.judged.Judged.{Judged}
@@ -24,7 +24,7 @@ IfGood s j = IfOk j.outcome (λ f. IsGood s j.mentions f)
 
 -- the scope has two slots for each variable, unprimed and primed, and one for each observation variable
 abbrev pub shape_for : List Decl → List Decl → Shape
-shape_for variables sights = record { sizes = doubled (sizes_of variables) ++ sizes_of sights; variables = length variables }
+shape_for variables sights = record { sizes = twice_each (sizes_of variables) ++ sizes_of sights; variables = length variables }
 
 -- the names fit the scope, and each dd has a good function
 pub record IsEnv (env : Env) : Type 0 where

@@ -22,13 +22,13 @@ pub record Branched : Type 0 where
   pub judged : Judged
 
 -- a branch where a variable's values have these names
-abbrev pub listed : List ℕ → List (List ℕ) → Branched → Listed
-listed source values b = record { at = b.word.start; value = number_of values (text source b.word); judged = b.judged }
+abbrev pub listed_branch : List ℕ → List (List ℕ) → Branched → Listed
+listed_branch source values b = record { at = b.word.start; value = number_of values (text source b.word); judged = b.judged }
 
 abbrev pub node_by : Env → List ℕ → Slots → Bool → Span → Span → List Branched → Option Place → Judged
-node_by env source allowed is_primed left word bs None = unknown_node word.start (map (listed source []) bs)
+node_by env source allowed is_primed left word bs None = unknown_node word.start (map (listed_branch source []) bs)
 node_by env source allowed is_primed left word bs (Some p) =
-    known_node env.scope allowed (branching_on env is_primed p left.start word.start) (map (listed source (values_of env p)) bs)
+    known_node env.scope allowed (branching_on env is_primed p left.start word.start) (map (listed_branch source (values_of env p)) bs)
 
 -- a node
 abbrev pub node : Env → List ℕ → Slots → Bool → Span → Span → List Branched → Judged
@@ -47,8 +47,8 @@ abbrev pub branch_step : Branch-F Judged Branched → Branched
 branch_step b = record { word = b.value; judged = b.tree }
 
 -- what judging a tree gives
-abbrev pub judged : Env → List ℕ → Slots → Tree → Judged
-judged env source allowed = fold-Tree Judged Branched (tree_step env source allowed) branch_step
+abbrev pub judgement : Env → List ℕ → Slots → Tree → Judged
+judgement env source allowed = fold-Tree Judged Branched (tree_step env source allowed) branch_step
 
-abbrev pub branched : Env → List ℕ → Slots → Branch → Branched
-branched env source allowed = fold-Branch Judged Branched (tree_step env source allowed) branch_step
+abbrev pub judgement_of_branch : Env → List ℕ → Slots → Branch → Branched
+judgement_of_branch env source allowed = fold-Branch Judged Branched (tree_step env source allowed) branch_step

@@ -22,8 +22,8 @@ abbrev pub inside_branches : List Listed → Option Refusal
 inside_branches ls = fold (λ first l. lesser first (refusal l.judged.outcome)) None ls
 
 -- what trees mention
-abbrev pub mentioned : List Judged → Slots
-mentioned js = fold (λ all j. union all j.mentions) none js
+abbrev pub mentions_of_trees : List Judged → Slots
+mentions_of_trees js = fold (λ all j. union all j.mentions) none js
 
 -- what branches mention, and some slots more
 abbrev pub mentioned_in_branches : Slots → List Listed → Slots

@@ -9,34 +9,34 @@ use Rattle.sp_trees.specs.declared.judged.Judged.{Judged}
 use Rattle.sp_trees.specs.declared.lists.Op.{Op}
 use Rattle.sp_trees.specs.declared.lists.Op.TheVariants as op
 use Rattle.sp_trees.specs.Conditions.{one, is_within, is_product_whole}
-use Rattle.sp_trees.specs.Judged.{inside, mentioned}
+use Rattle.sp_trees.specs.Judged.{inside, mentions_of_trees}
 
 -- the greatest magnitude of a partial result, in ticks
-abbrev pub most : ℕ
-most = 10 ^ 18
+abbrev pub greatest_partial : ℕ
+greatest_partial = 10 ^ 18
 
 -- a partial result, unless it is too large
-abbrev pub checked : Func → Result Func ModelKind
-checked f = if is_within most f then Ok f else Err kind.TooLarge
+abbrev pub partial_within_limit : Func → Result Func ModelKind
+partial_within_limit f = if is_within greatest_partial f then Ok f else Err kind.TooLarge
 
 -- a sum, or a product that is a whole number of ticks everywhere
-abbrev pub combined : Op → Func → Func → Result Func ModelKind
-combined op.Sum f g = checked (plus f g)
-combined op.Product f g = if is_product_whole f g then checked (product_floor f g) else Err kind.TooFine
+abbrev pub result_of_operation : Op → Func → Func → Result Func ModelKind
+result_of_operation op.Sum f g = partial_within_limit (plus f g)
+result_of_operation op.Product f g = if is_product_whole f g then partial_within_limit (product_floor f g) else Err kind.TooFine
 
 -- a refused partial result is refused at the list's bracket
 abbrev pub at_bracket : ℕ → Result Func ModelKind → Result Func Refusal
 at_bracket at (Ok f) = Ok f
 at_bracket at (Err k) = Err (record { at = at; kind = k })
 
-abbrev pub joined : Op → ℕ → Func → Func → Result Func Refusal
-joined o at f g = at_bracket at (combined o f g)
+abbrev pub result_of_step : Op → ℕ → Func → Func → Result Func Refusal
+result_of_step o at f g = at_bracket at (result_of_operation o f g)
 
 -- two functions of one scope that are small enough
 pub record CanJoin (f g : Func) : Type 0 where
   pub scopes : f.shape ≡ g.shape
-  pub small_left : Everywhere f (λ v. unsigned_abs v ≤ most)
-  pub small_right : Everywhere g (λ v. unsigned_abs v ≤ most)
+  pub small_left : Everywhere f (λ v. unsigned_abs v ≤ greatest_partial)
+  pub small_right : Everywhere g (λ v. unsigned_abs v ≤ greatest_partial)
 
 abbrev pub CanStep : Option Func → Result Func Refusal → Type 0
 CanStep None r = Unit {0}
@@ -47,7 +47,7 @@ CanStep (Some f) (Err r) = Unit {0}
 abbrev pub step : Op → ℕ → Option Func → Result Func Refusal → Result Func Refusal
 step o at so_far (Err r) = Err r
 step o at None (Ok g) = Ok g
-step o at (Some f) (Ok g) = joined o at f g
+step o at (Some f) (Ok g) = result_of_step o at f g
 
 abbrev pub then_more : Result Func Refusal → (Func → Result (Option Func) Refusal) → Result (Option Func) Refusal
 then_more (Ok f) more = more f
@@ -74,4 +74,4 @@ list_by s o at (Some r) js = Err r
 list_by s o at None js = or_neutral s o (steps o at None js)
 
 abbrev pub list_of : Shape → Op → ℕ → List Judged → Judged
-list_of s o at js = record { mentions = mentioned js; outcome = list_by s o at (inside js) js }
+list_of s o at js = record { mentions = mentions_of_trees js; outcome = list_by s o at (inside js) js }

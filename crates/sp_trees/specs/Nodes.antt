@@ -130,20 +130,20 @@ chosen_by s slot (Ok fs) = Ok (part_chosen s slot fs)
 chosen_by s slot (Err r) = Err r
 
 -- the choice between the functions of the values
-abbrev pub chosen : Shape → Branching → List Listed → Result Func Refusal
-chosen s n ls = chosen_by s n.slot (parts_from n.left ls [] (range_with_len 0 n.count))
+abbrev pub choice_between : Shape → Branching → List Listed → Result Func Refusal
+choice_between s n ls = chosen_by s n.slot (parts_from n.left ls [] (range_with_len 0 n.count))
 
 abbrev pub node_by : Shape → Branching → List Listed → Option Refusal → Result Func Refusal
 node_by s n ls (Some r) = Err r
-node_by s n ls None = chosen s n ls
+node_by s n ls None = choice_between s n ls
 
 -- a node of a known variable
 abbrev pub known_node : Shape → Slots → Branching → List Listed → Judged
 known_node s allowed n ls = record { mentions = mentioned_in_branches (one n.slot) ls; outcome = node_by s n ls (node_rows allowed n ls) }
 
-abbrev pub unknown : ℕ → Refusal
-unknown at = record { at = at; kind = kind.UnknownName }
+abbrev pub unknown_name : ℕ → Refusal
+unknown_name at = record { at = at; kind = kind.UnknownName }
 
 -- a node of an unknown variable
 abbrev pub unknown_node : ℕ → List Listed → Judged
-unknown_node at ls = record { mentions = mentioned_in_branches none ls; outcome = Err (unwrap_or (lesser (Some (unknown at)) (inside_branches ls)) (unknown at)) }
+unknown_node at ls = record { mentions = mentioned_in_branches none ls; outcome = Err (unwrap_or (lesser (Some (unknown_name at)) (inside_branches ls)) (unknown_name at)) }

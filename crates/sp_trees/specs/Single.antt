@@ -14,7 +14,7 @@ use Rattle.sp_trees.specs.declared.env.Dd.{Dd}
 use Rattle.sp_trees.specs.declared.judged.Judged.{Judged}
 use Rattle.sp_trees.specs.Slots.{none, is_among}
 use Rattle.sp_trees.specs.Words.{text}
-use Rattle.sp_trees.specs.Dds.{found}
+use Rattle.sp_trees.specs.Dds.{dd_of_name}
 
 -- why a word that should be a number is refused
 abbrev pub number_kind : NumError → ModelKind
@@ -39,4 +39,4 @@ reference_by allowed at (Some dd) = record {
 
 -- the function of a dd, where all that it mentions is allowed
 abbrev pub reference : List (List ℕ × Dd) → Slots → List ℕ → Span → Judged
-reference dds allowed source word = reference_by allowed word.start (found (text source word) dds)
+reference dds allowed source word = reference_by allowed word.start (dd_of_name (text source word) dds)

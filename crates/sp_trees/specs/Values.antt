@@ -13,10 +13,10 @@ use Rattle.sp_trees.specs.declared.slots.Slots.{Slots}
 use Rattle.sp_trees.specs.declared.env.Env.{Env}
 use Rattle.sp_trees.specs.declared.nodes.Place.{Place}
 use Rattle.sp_trees.specs.Words.{text, name_span, number_of}
-use Rattle.sp_trees.specs.Dds.{found}
+use Rattle.sp_trees.specs.Dds.{dd_of_name}
 use Rattle.sp_trees.specs.Conditions.{one, is_whole}
 use Rattle.sp_trees.specs.Nodes.{is_value, place_of, values_of, slot_of}
-use Rattle.sp_trees.specs.Judge.{judged}
+use Rattle.sp_trees.specs.Judge.{judgement}
 use Rattle.sp_trees.specs.Good.{IsEnv}
 
 -- a value at each point, or none
@@ -35,7 +35,7 @@ ticks_value (Err e) = None
 
 -- a reference has the value of its dd
 abbrev pub dd_value : Env → List ℕ → Value
-dd_value env name x = option_map (λ dd. value_of dd.func x) (found name env.dds)
+dd_value env name x = option_map (λ dd. value_of dd.func x) (dd_of_name name env.dds)
 
 abbrev pub value_in : List ℕ → Option Valued → Option ℤ
 value_in x None = None
@@ -53,24 +53,24 @@ node_by env source is_primed bs (Some p) x = branch_value source (values_of env 
 abbrev pub node_value : Env → List ℕ → Bool → Span → List Valued → Value
 node_value env source is_primed word bs = node_by env source is_primed bs (place_of env (text source (name_span is_primed word)))
 
-abbrev pub added : Option ℤ → Option ℤ → Option ℤ
-added (Some a) (Some b) = Some (a +ℤ b)
-added (Some a) None = None
-added None b = None
+abbrev pub sum_of : Option ℤ → Option ℤ → Option ℤ
+sum_of (Some a) (Some b) = Some (a +ℤ b)
+sum_of (Some a) None = None
+sum_of None b = None
 
 -- a product in ticks, where it is a whole number of ticks
-abbrev pub multiplied : Option ℤ → Option ℤ → Option ℤ
-multiplied (Some a) (Some b) = if is_whole (a *ℤ b) then Some (floor_div (a *ℤ b) ticks) else None
-multiplied (Some a) None = None
-multiplied None b = None
+abbrev pub product_of : Option ℤ → Option ℤ → Option ℤ
+product_of (Some a) (Some b) = if is_whole (a *ℤ b) then Some (floor_div (a *ℤ b) ticks) else None
+product_of (Some a) None = None
+product_of None b = None
 
 -- 0, and then each tree's value added
 abbrev pub sum_value : List Value → Value
-sum_value ts x = fold added (Some (pos 0)) (map (λ t. t x) ts)
+sum_value ts x = fold sum_of (Some (pos 0)) (map (λ t. t x) ts)
 
 -- one, and then multiplied with each tree's value
 abbrev pub product_value : List Value → Value
-product_value ts x = fold multiplied (Some one) (map (λ t. t x) ts)
+product_value ts x = fold product_of (Some one) (map (λ t. t x) ts)
 
 abbrev pub tree_step : Env → List ℕ → Tree-F Value Valued → Value
 tree_step env source (Tree-F.Number left word right) x = ticks_value (ticks_of (text source word))
@@ -93,4 +93,4 @@ branch_valued env source = fold-Branch Value Valued (tree_step env source) branc
 -- the function of a tree that isn't refused has, at each point, the value of the tree there
 abbrev pub ValuesAreTheTrees : Type 0
 ValuesAreTheTrees = (env : Env) (source : List ℕ) (allowed : Slots) (tree : Tree) → IsEnv env
-    → IfOk (judged env source allowed tree).outcome (λ f. (x : List ℕ) → IsPointOf f x → tree_value env source tree x ≡ Some (value_of f x))
+    → IfOk (judgement env source allowed tree).outcome (λ f. (x : List ℕ) → IsPointOf f x → tree_value env source tree x ≡ Some (value_of f x))

@@ -17,7 +17,7 @@ fn lies_between(f: &Func, low: i128, high: i128) -> bool
 }
 
 fn signed(is_negative: bool, magnitude: u64) -> i128
-    ensures { result ≡ spec.signed is_negative magnitude }
+    ensures { result ≡ spec.signed_magnitude is_negative magnitude }
 {
     let value = i128::from(magnitude);
     if is_negative { -value } else { value }

@@ -2,7 +2,7 @@
 
 ghost use Rattle.std.specs.Prelude.{◌≡◌, ◌++◌, [], ◌∷◌, None, IfOk, OnOk, OnErr};
 ghost use Rattle.std.specs.Option.{option_copied};
-ghost use Rattle.sp_trees.specs.Dds.{found};
+ghost use Rattle.sp_trees.specs.Dds.{dd_of_name};
 
 use crate::slots::Slots;
 use indexmap::IndexMap;
@@ -77,11 +77,11 @@ pub struct Dds<'a> {
 impl<'a> Model for Dds<'a> {
     ghost use Rattle.std.specs.Prelude.{List, ℕ};
     ghost use Rattle.sp_trees.specs.declared.env.Dd.{Dd};
-    ghost use Rattle.sp_trees.specs.Dds.{named};
+    ghost use Rattle.sp_trees.specs.Dds.{dds_by_name};
 
     ghost Value = { List (List ℕ × Dd) };
 
-    ghost view = { λ d. named d.by_name.entries };
+    ghost view = { λ d. dds_by_name d.by_name.entries };
 }
 
 impl<'a> Dds<'a> {
@@ -96,14 +96,14 @@ impl<'a> Dds<'a> {
 
     /// The dd of a name. Takes no memory.
     pub fn find(&self, name: &[u8]) -> Option<&Dd>
-        ensures { option_copied result ≡ found name.now self.now }
+        ensures { option_copied result ≡ dd_of_name name.now self.now }
     {
         self.by_name.get(name)
     }
 
     /// Declares a dd under a name that isn't declared.
     pub fn declare(&mut self, name: &'a [u8], dd: Dd) -> Result<(), NoMemory>
-        requires { found name.now self.old ≡ None }
+        requires { dd_of_name name.now self.old ≡ None }
         ensures ok { OnOk result (self.new ≡ self.old ++ (name.now, dd) ∷ []) }
         ensures err { OnErr result (self.new ≡ self.old) }
     {

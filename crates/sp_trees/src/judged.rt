@@ -46,7 +46,7 @@ pub(crate) fn inside(trees: &[Judged]) -> Option<Refusal>
 
 /// What trees mention.
 pub(crate) fn mentioned(trees: &[Judged]) -> Slots
-    ensures { result ≡ spec.mentioned trees.now }
+    ensures { result ≡ spec.mentions_of_trees trees.now }
 {
     trees
         .iter()

@@ -25,7 +25,7 @@ const MOST: u64 = 1_000_000_000_000_000_000;
 
 /// A partial result, unless it is too large.
 fn checked(func: Func) -> Result<Func, ModelKind>
-    ensures { result ≡ spec.checked func }
+    ensures { result ≡ spec.partial_within_limit func }
 {
     if is_within(MOST, &func) {
         Ok(func)
@@ -38,7 +38,7 @@ fn checked(func: Func) -> Result<Func, ModelKind>
 #[tactic(auto, using(crate::proofs::ListLemmas::product_some, crate::proofs::ListLemmas::product_none))]
 fn combined(alloc: Global, op: Op, f: &Func, g: &Func) -> Result<Result<Func, ModelKind>, NoMemory>
     requires { spec.CanJoin f.now g.now }
-    ensures { IfOk result (λ r. r ≡ spec.combined op f.now g.now) }
+    ensures { IfOk result (λ r. r ≡ spec.result_of_operation op f.now g.now) }
 {
     let _ = f.scope();
     match op {
@@ -59,7 +59,7 @@ fn joined(
     g: &Shared,
 ) -> Result<Result<Shared, Refusal>, NoMemory>
     requires { spec.CanJoin f.now g.now }
-    ensures { IfOk result (λ r. r ≡ spec.joined op at f.now g.now) }
+    ensures { IfOk result (λ r. r ≡ spec.result_of_step op at f.now g.now) }
 {
     match combined(alloc, op, f.func(), g.func())? {
         Ok(func) => Ok(Ok(Shared::new(alloc, func)?)),

@@ -27,7 +27,7 @@ pub fn judge(
     tree: &Tree,
 ) -> Result<Judged, NoMemory>
     requires { IsEnv env.now }
-    ensures value { IfOk result (λ j. j ≡ spec.judged env.now source.now allowed tree.now) }
+    ensures value { IfOk result (λ j. j ≡ spec.judgement env.now source.now allowed tree.now) }
     ensures good { IfOk result (λ j. IfGood env.now.scope j) }
     ensures allowed { IfOk result (λ j. IfOk j.outcome (λ f. is_among j.mentions allowed ≡ true)) }
 {
@@ -45,7 +45,7 @@ fn judge_tree(
     tree: &Tree,
 ) -> Result<Judged, NoMemory>
     requires { IsEnv env.now }
-    ensures { IfOk result (λ j. j ≡ spec.judged env.now source.now allowed tree.now) }
+    ensures { IfOk result (λ j. j ≡ spec.judgement env.now source.now allowed tree.now) }
 {
     match tree {
         Tree::Number { number: word, .. } => number(alloc, &env.scope, source, *word),
@@ -109,7 +109,7 @@ fn judge_node(
     branches: &[Branch],
 ) -> Result<Judged, NoMemory>
     requires { IsEnv env.now }
-    ensures { IfOk result (λ j. j ≡ spec.node env.now source.now allowed is_primed left word (map (spec.branched env.now source.now allowed) branches.now)) }
+    ensures { IfOk result (λ j. j ≡ spec.node env.now source.now allowed is_primed left word (map (spec.judgement_of_branch env.now source.now allowed) branches.now)) }
 {
     match place_of(env, text(source, name_span(is_primed, word))) {
         None => {
@@ -136,7 +136,7 @@ fn judge_branches(
     branches: &[Branch],
 ) -> Result<Sequence<Listed>, NoMemory>
     requires { IsEnv env.now }
-    ensures { IfOk result (λ ls. ls ≡ map (λ b. spec.listed source.now values.now (spec.branched env.now source.now allowed b)) branches.now) }
+    ensures { IfOk result (λ ls. ls ≡ map (λ b. spec.listed_branch source.now values.now (spec.judgement_of_branch env.now source.now allowed b)) branches.now) }
 {
     let mut listed = Sequence::new(alloc);
     for branch in branches {
@@ -161,7 +161,7 @@ fn judge_trees(
     trees: &[Tree],
 ) -> Result<Sequence<Judged>, NoMemory>
     requires { IsEnv env.now }
-    ensures { IfOk result (λ js. js ≡ map (spec.judged env.now source.now allowed) trees.now) }
+    ensures { IfOk result (λ js. js ≡ map (spec.judgement env.now source.now allowed) trees.now) }
 {
     let mut judged = Sequence::new(alloc);
     for tree in trees {

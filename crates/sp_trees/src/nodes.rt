@@ -262,7 +262,7 @@ fn chosen(
     requires slot { node.slot < length scope.now.sizes }
     requires count { node.count ≡ size_of scope.now node.slot }
     requires good { All (λ l. IfGood scope.now l.judged) branches.now }
-    ensures { IfOk result (λ r. r ≡ spec.chosen scope.now node branches.now) }
+    ensures { IfOk result (λ r. r ≡ spec.choice_between scope.now node branches.now) }
 {
     match parts_of(alloc, node.left, branches, node.count)? {
         Err(refusal) => Ok(Err(refusal)),

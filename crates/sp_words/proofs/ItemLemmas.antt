@@ -6,10 +6,10 @@ use Rattle.std.proofs.lemmas.List.{append-nil}
 use Rattle.std.proofs.lemmas.Map.Views.{list_any-from_Contains, Contains-from_any}
 use Rattle.std.proofs.lemmas.Cmp.{nat_list_eq_equiv}
 use Rattle.std.proofs.lemmas.Slice.Eq.{bytes_eq-Decides}
-use Rattle.sp_words.specs.Items.{Item, placed, flagged, valued, words_of, Names, IsItem, items_on, is_name}
+use Rattle.sp_words.specs.Items.{Item, placed, flagged, valued, words_of, OptionNames, IsWordItem, items_on, is_name}
 
 -- the words of items are read as these items
-pub items_complete : (names : Names) (read items : List Item) → AllByRecursion (IsItem names) items → items_on names read None (words_of items) ≡ Some (read ++ items)
+pub items_complete : (names : OptionNames) (read items : List Item) → AllByRecursion (IsWordItem names) items → items_on names read None (words_of items) ≡ Some (read ++ items)
 items_complete names read [] all = ap Some (sym (append-nil read))
 items_complete names read (placed word ∷ items) all =
     let name : is_name word ≡ false = all.0.1 in
@@ -30,18 +30,18 @@ abbrev pub waiting : Option (List ℕ) → List (List ℕ)
 waiting None = []
 waiting (Some name) = name ∷ []
 
-abbrev pub MayWait : Names → Option (List ℕ) → Type 0
+abbrev pub MayWait : OptionNames → Option (List ℕ) → Type 0
 MayWait names None = ⊤
 MayWait names (Some name) = (is_name name ≡ true) × (list_any (bytes_eq name) names.flags ≡ false) × Contains names.options name
 
 -- words from here on say these items more
-abbrev pub SaysMore : Names → List Item → List (List ℕ) → List Item → Type 0
-SaysMore names read words items = (new : List Item) × (items ≡ read ++ new) × (words ≡ words_of new) × AllByRecursion (IsItem names) new
+abbrev pub SaysMore : OptionNames → List Item → List (List ℕ) → List Item → Type 0
+SaysMore names read words items = (new : List Item) × (items ≡ read ++ new) × (words ≡ words_of new) × AllByRecursion (IsWordItem names) new
 
-says_more : (names : Names) (read : List Item) (item : Item) (words : List (List ℕ)) (items : List Item) → IsItem names item → SaysMore names (read ++ (item ∷ [])) words items → (new : List Item) × (items ≡ read ++ (item ∷ new)) × (words ≡ words_of new) × AllByRecursion (IsItem names) (item ∷ new)
+says_more : (names : OptionNames) (read : List Item) (item : Item) (words : List (List ℕ)) (items : List Item) → IsWordItem names item → SaysMore names (read ++ (item ∷ [])) words items → (new : List Item) × (items ≡ read ++ (item ∷ new)) × (words ≡ words_of new) × AllByRecursion (IsWordItem names) (item ∷ new)
 says_more names read item words items good s = (s.0, s.1 ∙ append_assoc read (item ∷ []) s.0, s.2, (good, s.3))
 
-module _ (names : Names) (word : List ℕ) (words : List (List ℕ)) (read items : List Item)
+module _ (names : OptionNames) (word : List ℕ) (words : List (List ℕ)) (read items : List Item)
     (on : (read : List Item) (pending : Option (List ℕ)) → MayWait names pending → items_on names read pending words ≡ Some items → SaysMore names read (waiting pending ++ words) items) where
   says_word : (name flag known empty : Bool) → is_name word ≡ name → list_any (bytes_eq word) names.flags ≡ flag → list_any (bytes_eq word) names.options ≡ known → nat_eq (length word) 0 ≡ empty
       → items_on names read None (word ∷ words) ≡ Some items → SaysMore names read (word ∷ words) items
@@ -56,7 +56,7 @@ module _ (names : Names) (word : List ℕ) (words : List (List ℕ)) (read items
       (placed word ∷ more.0, more.1, ap (λ l. word ∷ l) more.2, more.3)
 
 -- what is read of words says these words
-pub items_sound : (names : Names) (words : List (List ℕ)) (items read : List Item) (pending : Option (List ℕ)) → MayWait names pending → items_on names read pending words ≡ Some items → SaysMore names read (waiting pending ++ words) items
+pub items_sound : (names : OptionNames) (words : List (List ℕ)) (items read : List Item) (pending : Option (List ℕ)) → MayWait names pending → items_on names read pending words ≡ Some items → SaysMore names read (waiting pending ++ words) items
 items_sound names [] items read None may h = let same : read ≡ items = cc in ([], sym same ∙ sym (append-nil read), refl, tt)
 items_sound names [] items read (Some name) may h = cc
 items_sound names (value ∷ words) items read (Some name) may h =
@@ -66,7 +66,7 @@ items_sound names (word ∷ words) items read None may h =
     says_word names word words read items (items_sound names words items) (is_name word) (list_any (bytes_eq word) names.flags) (list_any (bytes_eq word) names.options) (nat_eq (length word) 0) refl refl refl refl h
 
 -- no other items have the same words
-pub same_items : (names : Names) (items others : List Item) → AllByRecursion (IsItem names) items → AllByRecursion (IsItem names) others → words_of items ≡ words_of others → items ≡ others
+pub same_items : (names : OptionNames) (items others : List Item) → AllByRecursion (IsWordItem names) items → AllByRecursion (IsWordItem names) others → words_of items ≡ words_of others → items ≡ others
 same_items names items others all all' e =
     let one = items_complete names [] items all in
     let two = items_complete names [] others all' in

@@ -1,7 +1,7 @@
 -- What words behind a command ask for, by their items.
 use Rattle.std.proofs.Common.{◌≡◌, ℕ, List, [], Option, Some, None, sym, ap, ◌∙◌, codes, ◌<◌, slice_index, arith, refl, subst}
 use Rattle.sp_words.specs.Items.{Item, items_on}
-use Rattle.sp_words.specs.Jobs.{plan_names, IsPlan, IsPlanned, IsNumberAlone, AsksBehind, command_of}
+use Rattle.sp_words.specs.Jobs.{plan_names, IsPlanJob, AsksForPlan, IsNumberAlone, AsksBehind, command_of}
 use Rattle.sp_words.specs.declared.job.PlanWords.{PlanWords}
 use Rattle.sp_words.specs.declared.job.Job.{Job}
 use Rattle.sp_words.specs.declared.job.Job.TheVariants.{Plan, Check, Show, Gen, Trial, Audit, Migrate, Act}
@@ -115,10 +115,10 @@ pub migrate_only : (P : Job → Type 0) → ((plan : List ℕ) → ¬ (P (Migrat
 migrate_only P none job e is = let s = is_migrate job e in none s.0 (subst P s.1 is)
 
 -- words whose items are those of a plan ask for it
-pub plan_read : (rest : List (List ℕ)) (items : List Item) (p : PlanWords) → items_on plan_names [] None rest ≡ Some items → IsPlan items p → IsPlanned rest p
+pub plan_read : (rest : List (List ℕ)) (items : List Item) (p : PlanWords) → items_on plan_names [] None rest ≡ Some items → IsPlanJob items p → AsksForPlan rest p
 plan_read rest items p reads is =
     let s = items_sound plan_names rest items [] None tt reads in
-    let is' : IsPlan s.0 p = rw s.1 at is in
+    let is' : IsPlanJob s.0 p = rw s.1 at is in
     record { items = s.0; is = s.2; each = s.3; says = is' }
 
 -- words without items ask for no plan
@@ -129,7 +129,7 @@ plan_unread rest none = plan_only (AsksBehind rest) (λ p asks.
     cc)
 
 -- words whose items are those of no plan ask for none
-pub plan_other : (rest : List (List ℕ)) (items : List Item) → items_on plan_names [] None rest ≡ Some items → ((p : PlanWords) → ¬ (IsPlan items p)) → (job : Job) → command_of job ≡ codes "plan" → ¬ (AsksBehind rest job)
+pub plan_other : (rest : List (List ℕ)) (items : List Item) → items_on plan_names [] None rest ≡ Some items → ((p : PlanWords) → ¬ (IsPlanJob items p)) → (job : Job) → command_of job ≡ codes "plan" → ¬ (AsksBehind rest job)
 plan_other rest items some none = plan_only (AsksBehind rest) (λ p asks.
     let reads = items_complete plan_names [] asks.items asks.each in
     let both : Some items ≡ Some asks.items = sym some ∙ ap (items_on plan_names [] None) asks.is ∙ reads in

@@ -1,10 +1,10 @@
 -- Words ask for one job at most.
 use Rattle.std.proofs.Common.{◌≡◌, ℕ, ◌-◌, ◌^◌, Bool, true, false, List, [], ◌∷◌, length, ap, sym, ◌∙◌, refl, codes, arith, inl, inr, cond, Option, Some, None, subst, ap₂}
 use Rattle.std.specs.Str.Parse.{digits_value}
-use Rattle.sp_words.specs.Items.{Item, values, HasNumber, HasFlag, HasFile}
+use Rattle.sp_words.specs.Items.{Item, values, OptionHasNumber, HasFlag, HasFile}
 use Rattle.clap.specs.Words.{Row, first_of, subcommand_of}
 use Rattle.sp_words.specs.Apps.{tool_app}
-use Rattle.sp_words.specs.Jobs.{plan_names, IsPlan, HasExplore, IsPlanned, IsNumberAlone, IsPlacedAlone, ArePlacedAlone, AsksBehind, AsksByList, GivesNumber, GivesFile, GivesPlan, Gives, AsksByParser, AskOnce, command_of}
+use Rattle.sp_words.specs.Jobs.{plan_names, IsPlanJob, HasExplore, AsksForPlan, IsNumberAlone, IsPlacedAlone, ArePlacedAlone, AsksBehind, AsksByList, GivesNumber, GivesFile, GivesPlan, Gives, AsksByParser, AskOnce, command_of}
 use Rattle.sp_words.specs.declared.job.PlanWords.{PlanWords}
 use Rattle.sp_words.specs.declared.job.Job.{Job}
 use Rattle.sp_words.specs.declared.job.Job.TheVariants.{Plan, Check, Show, Gen, Trial, Audit, Migrate, Act}
@@ -12,7 +12,7 @@ use Rattle.sp_words.proofs.ItemLemmas.{same_items}
 use Rattle.sp_words.proofs.JobLemmas.{differs, is_plan, is_check, is_show, is_gen, is_trial, is_audit, is_migrate, is_act}
 use Rattle.sp_words.proofs.ParserLemmas.{no_text}
 
-one_number : (items : List Item) (option : List ℕ) (least greatest m n : ℕ) → HasNumber items option least greatest m → HasNumber items option least greatest n → m ≡ n
+one_number : (items : List Item) (option : List ℕ) (least greatest m n : ℕ) → OptionHasNumber items option least greatest m → OptionHasNumber items option least greatest n → m ≡ n
 one_number items option least greatest m n one two =
     let same : one.0 ≡ two.0 = cc (one.1, two.1) in
     sym one.2.value ∙ ap (digits_value 10) same ∙ two.2.value
@@ -62,7 +62,7 @@ same_plan p q a b c d e f g h i =
     ∙ ap (λ x. record q { sessions = x }) i
 
 -- the same items ask for the same plan
-one_plan : (items : List Item) (p q : PlanWords) → IsPlan items p → IsPlan items q → p ≡ q
+one_plan : (items : List Item) (p q : PlanWords) → IsPlanJob items p → IsPlanJob items q → p ≡ q
 one_plan items p q one two =
     let model : p.model ≡ q.model = cc (one.model, two.model) in
     same_plan p q model
@@ -111,10 +111,10 @@ one_by P plans checks shows gens trials audits migrates acts (Act x v) other e o
     let same = acts x s.0 v s.1 one (subst P s.2 two) in
     ap₂ Act same.0 same.1 ∙ sym s.2
 
-one_planned : (rest : List (List ℕ)) (p q : PlanWords) → IsPlanned rest p → IsPlanned rest q → p ≡ q
+one_planned : (rest : List (List ℕ)) (p q : PlanWords) → AsksForPlan rest p → AsksForPlan rest q → p ≡ q
 one_planned rest p q one two =
     let items : one.items ≡ two.items = same_items plan_names one.items two.items one.each two.each (sym one.is ∙ two.is) in
-    let says : IsPlan one.items q = rw (← items) at two.says in
+    let says : IsPlanJob one.items q = rw (← items) at two.says in
     one_plan one.items p q one.says says
 
 -- the same listed words ask for the same job

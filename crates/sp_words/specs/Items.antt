@@ -42,7 +42,7 @@ abbrev pub is_name : List ℕ → Bool
 is_name word = slice_index word 0 == 45
 
 -- the names of a command's options, and of its flags
-pub record Names : Type 0 where
+pub record OptionNames : Type 0 where
   pub options : List (List ℕ)
   pub flags : List (List ℕ)
 
@@ -51,13 +51,13 @@ abbrev pub IsPlaced : List ℕ → Type 0
 IsPlaced word = (0 < length word) × (is_name word ≡ false)
 
 -- a word by itself can stand so; a flag is one of the command's flags; an option's name is one of its options
-abbrev pub IsItem : Names → Item → Type 0
-IsItem names (placed word) = IsPlaced word
-IsItem names (flagged name) = (is_name name ≡ true) × (list_any (bytes_eq name) names.flags ≡ true)
-IsItem names (valued name value) = (is_name name ≡ true) × (list_any (bytes_eq name) names.flags ≡ false) × Contains names.options name
+abbrev pub IsWordItem : OptionNames → Item → Type 0
+IsWordItem names (placed word) = IsPlaced word
+IsWordItem names (flagged name) = (is_name name ≡ true) × (list_any (bytes_eq name) names.flags ≡ true)
+IsWordItem names (valued name value) = (is_name name ≡ true) × (list_any (bytes_eq name) names.flags ≡ false) × Contains names.options name
 
 -- one to twenty digits, and their number lies between these
-pub record IsNumber (least greatest : ℕ) (text : List ℕ) (n : ℕ) : Type 0 where
+pub record IsNumberWord (least greatest : ℕ) (text : List ℕ) (n : ℕ) : Type 0 where
   pub digits : AllDigits 10 text
   pub some : 0 < length text
   pub most : length text ≤ 20
@@ -66,8 +66,8 @@ pub record IsNumber (least greatest : ℕ) (text : List ℕ) (n : ℕ) : Type 0 
   pub high : n ≤ greatest
 
 -- the option is there once, with a number between these
-abbrev pub HasNumber : List Item → List ℕ → ℕ → ℕ → ℕ → Type 0
-HasNumber items option least greatest n = (text : List ℕ) × (values option items ≡ text ∷ []) × IsNumber least greatest text n
+abbrev pub OptionHasNumber : List Item → List ℕ → ℕ → ℕ → ℕ → Type 0
+OptionHasNumber items option least greatest n = (text : List ℕ) × (values option items ≡ text ∷ []) × IsNumberWord least greatest text n
 
 -- the flag is there once, or not at all
 abbrev pub HasFlag : List Item → List ℕ → Bool → Type 0
@@ -79,7 +79,7 @@ HasFile items option None = values option items ≡ []
 HasFile items option (Some file) = (values option items ≡ file ∷ []) × IsPlaced file
 
 -- the items that words say, behind those that were read, with the name of an option that waits for its value
-abbrev pub items_on : Names → List Item → Option (List ℕ) → List (List ℕ) → Option (List Item)
+abbrev pub items_on : OptionNames → List Item → Option (List ℕ) → List (List ℕ) → Option (List Item)
 items_on names read None [] = Some read
 items_on names read (Some name) [] = None
 items_on names read (Some name) (value ∷ words) = items_on names (read ++ (valued name value ∷ [])) None words

@@ -2,7 +2,7 @@
 use Rattle.std.specs.Prelude.{◌≡◌, ℕ, ◌-◌, ◌^◌, ◌≤◌, List, [], ◌∷◌, codes, Bool, true, false, cond, ◌⊎◌, Option, Some, None}
 use Rattle.std.specs.List.{AllByRecursion}
 use Rattle.clap.specs.Words.{Row, first_of, subcommand_of, takes, fault_of}
-use Rattle.sp_words.specs.Items.{Item, words_of, places, values, Names, IsPlaced, IsItem, IsNumber, HasNumber, HasFlag, HasFile}
+use Rattle.sp_words.specs.Items.{Item, words_of, places, values, OptionNames, IsPlaced, IsWordItem, IsNumberWord, OptionHasNumber, HasFlag, HasFile}
 use Rattle.sp_words.specs.Apps.{tool_app}
 use Rattle.sp_words.specs.declared.job.PlanNumbers.{PlanNumbers}
 use Rattle.sp_words.specs.declared.job.PlanWords.{PlanWords}
@@ -22,14 +22,14 @@ numbers_of plan = record { beliefs = plan.beliefs; depth = plan.depth; stages = 
 
 -- the items have the numbers of a plan on no further threads, each once
 pub record HavePlanNumbers (items : List Item) (numbers : PlanNumbers) : Type 0 where
-  pub beliefs : HasNumber items (codes "--beliefs") 1 4096 numbers.beliefs
-  pub depth : HasNumber items (codes "--depth") 1 4096 numbers.depth
-  pub stages : HasNumber items (codes "--stages") 1 1000 numbers.stages
-  pub seed : HasNumber items (codes "--seed") 0 (2 ^ 64 - 1) numbers.seed
-  pub workers : HasNumber items (codes "--workers") 0 0 numbers.workers
+  pub beliefs : OptionHasNumber items (codes "--beliefs") 1 4096 numbers.beliefs
+  pub depth : OptionHasNumber items (codes "--depth") 1 4096 numbers.depth
+  pub stages : OptionHasNumber items (codes "--stages") 1 1000 numbers.stages
+  pub seed : OptionHasNumber items (codes "--seed") 0 (2 ^ 64 - 1) numbers.seed
+  pub workers : OptionHasNumber items (codes "--workers") 0 0 numbers.workers
 
 -- the items are those of a plan on no further threads
-pub record IsPlan (items : List Item) (plan : PlanWords) : Type 0 where
+pub record IsPlanJob (items : List Item) (plan : PlanWords) : Type 0 where
   pub model : places items ≡ plan.model ∷ []
   pub numbers : HavePlanNumbers items (numbers_of plan)
   pub prune : HasFlag items (codes "--prune") plan.prune
@@ -48,7 +48,7 @@ command_of (Migrate plan) = codes "migrate"
 command_of (Act plan script) = codes "act"
 
 -- the options and the flags of `plan`
-abbrev pub plan_names : Names
+abbrev pub plan_names : OptionNames
 plan_names = record {
   options = codes "--beliefs" ∷ codes "--depth" ∷ codes "--stages" ∷ codes "--seed" ∷ codes "--workers" ∷ codes "--explore" ∷ codes "--sessions" ∷ [];
   flags = codes "--prune" ∷ [];
@@ -64,18 +64,18 @@ ArePlacedAlone rest first second = (rest ≡ first ∷ second ∷ []) × IsPlace
 
 -- the words are one number of 0 to 16
 abbrev pub IsNumberAlone : List (List ℕ) → ℕ → Type 0
-IsNumberAlone rest n = (word : List ℕ) × IsPlacedAlone rest word × IsNumber 0 16 word n
+IsNumberAlone rest n = (word : List ℕ) × IsPlacedAlone rest word × IsNumberWord 0 16 word n
 
 -- the words are those of the options and flags of `plan` and of its model's name, in any order
-pub record IsPlanned (rest : List (List ℕ)) (plan : PlanWords) : Type 0 where
+pub record AsksForPlan (rest : List (List ℕ)) (plan : PlanWords) : Type 0 where
   pub items : List Item
   pub is : rest ≡ words_of items
-  pub each : AllByRecursion (IsItem plan_names) items
-  pub says : IsPlan items plan
+  pub each : AllByRecursion (IsWordItem plan_names) items
+  pub says : IsPlanJob items plan
 
 -- the words behind a command ask for this
 abbrev pub AsksBehind : List (List ℕ) → Job → Type 0
-AsksBehind rest (Plan plan) = IsPlanned rest plan
+AsksBehind rest (Plan plan) = AsksForPlan rest plan
 AsksBehind rest (Check model) = IsPlacedAlone rest model
 AsksBehind rest (Show model) = IsPlacedAlone rest model
 AsksBehind rest (Gen number) = IsNumberAlone rest number
@@ -94,7 +94,7 @@ pub record AsksByList (words : List (List ℕ)) (job : Job) : Type 0 where
 
 -- the id has a number between these
 abbrev pub GivesNumber : List Row → List ℕ → ℕ → ℕ → ℕ → Type 0
-GivesNumber rows id least greatest n = (text : List ℕ) × (first_of id rows ≡ Some text) × IsNumber least greatest text n
+GivesNumber rows id least greatest n = (text : List ℕ) × (first_of id rows ≡ Some text) × IsNumberWord least greatest text n
 
 -- the id has the name of a file; or it has nothing, and names none
 abbrev pub GivesFile : List Row → List ℕ → Option (List ℕ) → Type 0

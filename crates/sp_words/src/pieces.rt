@@ -2,7 +2,7 @@
 
 ghost use Rattle.std.specs.Prelude.{◌≡◌, ℕ, List, [], ◌∷◌, Option, Some, None, map, IfOk, MatchOption, string_bytes, bytes_eq, Err, length, nat_eq, option_map};
 ghost use Rattle.std.specs.List.{list_any};
-ghost use Rattle.sp_words.specs.Items.{is_name, items_on, places, values, times_flagged, IsPlaced, IsNumber, HasNumber, HasFile};
+ghost use Rattle.sp_words.specs.Items.{is_name, items_on, places, values, times_flagged, IsPlaced, IsNumberWord, OptionHasNumber, HasFile};
 ghost use Rattle.sp_words.specs.Pieces.{item_of, names_of};
 
 use crate::job::WordsError;
@@ -168,14 +168,14 @@ pub fn file_of<'a>(pieces: &[Piece<'a>], option: &str) -> Option<Option<&'a str>
 
 /// The number of an option between these two, if it is there once with one.
 pub fn number_of(pieces: &[Piece<'_>], option: &str, low: u64, high: u64) -> Option<u64>
-    ensures { MatchOption result ((n : ℕ) → ¬ (HasNumber (map item_of pieces.now) option.now low high n)) (λ n. HasNumber (map item_of pieces.now) option.now low high n) }
+    ensures { MatchOption result ((n : ℕ) → ¬ (OptionHasNumber (map item_of pieces.now) option.now low high n)) (λ n. OptionHasNumber (map item_of pieces.now) option.now low high n) }
 {
     number_in(only_value(pieces, option)?, low, high)
 }
 
 /// The number of one to twenty digits between these two, if the text is one.
 pub fn number_in(text: &str, low: u64, high: u64) -> Option<u64>
-    ensures { MatchOption result ((n : ℕ) → ¬ (IsNumber low high text.now n)) (λ n. IsNumber low high text.now n) }
+    ensures { MatchOption result ((n : ℕ) → ¬ (IsNumberWord low high text.now n)) (λ n. IsNumberWord low high text.now n) }
 {
     if text.len() > 20 || text.as_bytes().first() == Some(&b'+') {
         return None;

@@ -2,7 +2,7 @@
 
 ghost use Rattle.std.specs.Prelude.{◌≡◌, ◌≢◌, ℕ, List, ◌∷◌, codes, map, cond, IfOk, MatchOption, string_bytes, Err, Bool};
 ghost use Rattle.sp_words.specs.Pieces.{item_of};
-ghost use Rattle.sp_words.specs.Jobs.{Asks, AsksByList, AsksBehind, IsPlan, HavePlanNumbers, HasExplore, IsPlacedAlone, ArePlacedAlone, IsNumberAlone, IsPossible, command_of};
+ghost use Rattle.sp_words.specs.Jobs.{Asks, AsksByList, AsksBehind, IsPlanJob, HavePlanNumbers, HasExplore, IsPlacedAlone, ArePlacedAlone, IsNumberAlone, IsPossible, command_of};
 ghost use Rattle.sp_words.specs.Items.{HasFlag};
 ghost use Rattle.sp_words.specs.declared.job.Job.{Job};
 ghost use Rattle.sp_words.specs.declared.job.PlanNumbers.{PlanNumbers};
@@ -99,8 +99,8 @@ fn plan(alloc: Global, words: &[String]) -> Result<Job, WordsError>
 
 /// The plan that pieces ask for.
 fn plan_in(alloc: Global, pieces: &[Piece<'_>]) -> Result<PlanWords, WordsError>
-    ensures plan { IfOk result (λ p. IsPlan (map item_of pieces.now) p) }
-    ensures usage { result ≡ Err WordsError.Usage → (p : PlanWords) → ¬ (IsPlan (map item_of pieces.now) p) }
+    ensures plan { IfOk result (λ p. IsPlanJob (map item_of pieces.now) p) }
+    ensures usage { result ≡ Err WordsError.Usage → (p : PlanWords) → ¬ (IsPlanJob (map item_of pieces.now) p) }
 {
     let Some(model) = only_place(pieces) else {
         return Err(WordsError::Usage);

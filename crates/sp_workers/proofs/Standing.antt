@@ -1,11 +1,11 @@
 -- Work that stands after some steps.
 use Rattle.std.proofs.Common.{◌≡◌, ℕ, ◌+◌, refl, ◌∙◌, arith}
 use Rattle.std.specs.Prelude.{Result, Ok, Err, OnOk, OnErr}
-use Rattle.sp_publish.specs.Published.{Published, GoesOn}
+use Rattle.sp_publish.specs.Published.{PublishedList, ListGoesOn}
 use Rattle.sp_publish.proofs.PublishedLemmas.{goes_on_self, goes_on_trans}
 use Rattle.sp_workers.specs.Later.{StandsLater}
 
-module _ {S W : Type 0} (task : S → W) (seen : S → Published) (ahead : S → ℕ) where
+module _ {S W : Type 0} (task : S → W) (seen : S → PublishedList) (ahead : S → ℕ) where
   pub stands_self : (x : S) → StandsLater task seen ahead x x
   stands_self x = record { work = refl; known = goes_on_self (seen x); steps = omega arith }
 
@@ -17,6 +17,6 @@ module _ {S W : Type 0} (task : S → W) (seen : S → Published) (ahead : S →
   }
 
   -- after a step that is made, or that finds no memory
-  pub stands_step : {T E : Type 0} (x y : S) (r : Result T E) → task y ≡ task x → GoesOn (seen x) (seen y) → OnOk r (ahead y + 1 ≡ ahead x) → OnErr r (ahead y ≡ ahead x) → StandsLater task seen ahead x y
+  pub stands_step : {T E : Type 0} (x y : S) (r : Result T E) → task y ≡ task x → ListGoesOn (seen x) (seen y) → OnOk r (ahead y + 1 ≡ ahead x) → OnErr r (ahead y ≡ ahead x) → StandsLater task seen ahead x y
   stands_step x y (Ok v) work known ok err = record { work = work; known = known; steps = omega (arith, ok) }
   stands_step x y (Err e) work known ok err = record { work = work; known = known; steps = omega (arith, err) }

@@ -3,7 +3,7 @@
 ghost use Rattle.std.specs.Prelude.{◌≡◌, OnOk, false, true};
 ghost use Rattle.sp_core.specs.Books.{state_of};
 ghost use Rattle.sp_planner.specs.Planned.{picking_words};
-ghost use Rattle.sp_planner.specs.Turns.{IsLater, IsRun};
+ghost use Rattle.sp_planner.specs.Turns.{IsLaterBook, IsRun};
 
 use sp_core::Book;
 use sp_dd::NoMemory;
@@ -15,7 +15,7 @@ use std::alloc::Global;
 pub fn finish(alloc: Global, book: &mut Book) -> Result<(), NoMemory>
     ensures run { OnOk result (IsRun false book.old (picking_words book.old.task.options) book.new) }
     ensures done { OnOk result ((state_of book.new).done ≡ true) }
-    ensures later { IsLater book.old book.new }
+    ensures later { IsLaterBook book.old book.new }
 {
     let mut idle = Idle;
     sp_planner::finish(alloc, book, false, &mut idle)

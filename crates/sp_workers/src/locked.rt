@@ -7,7 +7,7 @@ ghost use Rattle.sp_theory.specs.OneThread.{picked};
 ghost use Rattle.sp_value.specs.Tasks.{task_of};
 ghost use Rattle.sp_core.specs.Marks.{marks_of};
 ghost use Rattle.sp_core.specs.Pruning.{AreDominatedIn};
-ghost use Rattle.sp_publish.specs.Published.{GoesOn};
+ghost use Rattle.sp_publish.specs.Published.{ListGoesOn};
 ghost use Rattle.sp_workers.specs.Shared.{AreShared, IsBeginning};
 ghost use Rattle.sp_workers.specs.Sections.{HasSameEvents, IsLatest, IsLook, IsPrunedFor, IsSettledFor, IsWorkOf, MayPrune, MaySettle};
 
@@ -40,7 +40,7 @@ impl<R: Wait + Drop> Held<R> {
     fn publish_all(&mut self, book: &Book) -> Result<(), NoMemory>
         requires { IsBeginning self.old.publisher book.now }
         ensures beginning { IsBeginning self.new.publisher book.now }
-        ensures on { GoesOn self.old.publisher self.new.publisher }
+        ensures on { ListGoesOn self.old.publisher self.new.publisher }
         ensures whole { OnOk result (self.new.publisher.editions ≡ book.now.editions) }
     {
         publish_all(&self.rt, book, &mut self.publisher)
@@ -124,7 +124,7 @@ impl<N: ListName, R: Wait + Drop> Locked<N, R> {
         ensures ok { IfOk result (λ answer. IsSettledFor self.old.book candidate answer self.new.book) }
         ensures published { OnOk result (self.new.list.editions ≡ self.new.book.editions) }
         ensures event { MaySettle self.old.book candidate self.new.book }
-        ensures on { GoesOn self.old.list self.new.list }
+        ensures on { ListGoesOn self.old.list self.new.list }
         ensures working { self.new.working ≡ self.old.working }
     {
         let answer = self.settle_alone(alloc, candidate, kept)?;
@@ -153,7 +153,7 @@ impl<N: ListName, R: Wait + Drop> Locked<N, R> {
         ensures ok { IfOk result (λ answer. IsPrunedFor self.old.book (arc_value base.now) pairs.now answer self.new.book) }
         ensures published { OnOk result (self.new.list.editions ≡ self.new.book.editions) }
         ensures event { MayPrune self.old.book (arc_value base.now) pairs.now self.new.book }
-        ensures on { GoesOn self.old.list self.new.list }
+        ensures on { ListGoesOn self.old.list self.new.list }
         ensures working { self.new.working ≡ self.old.working }
     {
         let answer = self.prune_alone(base, pairs)?;
@@ -175,7 +175,7 @@ impl<N: ListName, R: Wait + Drop> Locked<N, R> {
     fn publish(&mut self) -> Result<(), NoMemory>
         ensures book { self.new.book ≡ self.old.book }
         ensures working { self.new.working ≡ self.old.working }
-        ensures on { GoesOn self.old.list self.new.list }
+        ensures on { ListGoesOn self.old.list self.new.list }
         ensures whole { OnOk result (self.new.list.editions ≡ self.new.book.editions) }
     {
         self.held.publish_all(&self.book)

@@ -1,7 +1,7 @@
 //! Publishing the editions of a book.
 
 ghost use Rattle.std.specs.Prelude.{◌≡◌, ◌+◌, ◌<◌, IfOk, OnErr, OnOk, length, true};
-ghost use Rattle.sp_publish.specs.Published.{GoesOn};
+ghost use Rattle.sp_publish.specs.Published.{ListGoesOn};
 ghost use Rattle.sp_workers.specs.Shared.{IsBeginning};
 
 use sp_core::Book;
@@ -20,7 +20,7 @@ pub fn publish_rest<R: Wait>(
     requires { IsBeginning publisher.old book.now }
     ensures whole { OnOk result (publisher.new ≡ record publisher.old { editions = book.now.editions; ended = true }) }
     ensures told { IfOk result (λ n. n ≡ publisher.new) }
-    ensures err { OnErr result (IsBeginning publisher.new book.now × GoesOn publisher.old publisher.new) }
+    ensures err { OnErr result (IsBeginning publisher.new book.now × ListGoesOn publisher.old publisher.new) }
 {
     publish_all(rt, book, publisher)?;
     let told = publisher.end(rt)?;
@@ -35,7 +35,7 @@ pub(crate) fn publish_all<R: Wait>(
 ) -> Result<(), NoMemory>
     requires { IsBeginning publisher.old book.now }
     ensures beginning { IsBeginning publisher.new book.now }
-    ensures on { GoesOn publisher.old publisher.new }
+    ensures on { ListGoesOn publisher.old publisher.new }
     ensures whole { OnOk result (publisher.new.editions ≡ book.now.editions) }
 {
     let published = publisher.newest().number();
@@ -57,7 +57,7 @@ fn publish_edition<R: Wait>(
     requires next { length publisher.old.editions ≡ number }
     requires within { number < length book.now.editions }
     ensures beginning { IsBeginning publisher.new book.now }
-    ensures on { GoesOn publisher.old publisher.new }
+    ensures on { ListGoesOn publisher.old publisher.new }
     ensures more { OnOk result (length publisher.new.editions ≡ number + 1) }
 {
     // what is known of each book

@@ -7,7 +7,7 @@ ghost use Rattle.sp_theory.specs.OneThread.{picked};
 ghost use Rattle.sp_value.specs.Tasks.{task_of};
 ghost use Rattle.sp_core.specs.Marks.{marks_of};
 ghost use Rattle.sp_core.specs.Pruning.{AreDominatedIn};
-ghost use Rattle.sp_planner.specs.Turns.{IsLater};
+ghost use Rattle.sp_planner.specs.Turns.{IsLaterBook};
 ghost use Rattle.sp_workers.specs.Sections.{HasSameEvents, IsLatest, IsLook, IsPrunedFor, IsSettledAnew, IsSettledFor, IsWorkOf};
 
 use sp_backup::{Projections, point_backup};
@@ -68,7 +68,7 @@ pub(crate) fn settle_on(
 ) -> Result<Settled, NoMemory>
     requires { candidate.base.task ≡ book.old.task }
     ensures known { IsBook book.new }
-    ensures later { IsLater book.old book.new }
+    ensures later { IsLaterBook book.old book.new }
     ensures ok { IfOk result (λ answer. IsSettledFor book.old candidate answer book.new) }
     ensures unchanged { OnErr result (book.new ≡ book.old) }
 {
@@ -100,7 +100,7 @@ fn settle_anew(
 ) -> Result<Settled, NoMemory>
     requires { belief < book.old.task.options.beliefs }
     ensures known { IsBook book.new }
-    ensures later { IsLater book.old book.new }
+    ensures later { IsLaterBook book.old book.new }
     ensures ok { IfOk result (λ answer. IsSettledAnew book.old belief answer book.new) }
     ensures unchanged { OnErr result (book.new ≡ book.old) }
 {
@@ -124,7 +124,7 @@ pub(crate) fn prune_on(
 ) -> Result<Pruned, NoMemory>
     requires { AreDominatedIn (arc_value base.now) pairs.now }
     ensures known { IsBook book.new }
-    ensures later { IsLater book.old book.new }
+    ensures later { IsLaterBook book.old book.new }
     ensures ok { IfOk result (λ answer. IsPrunedFor book.old (arc_value base.now) pairs.now answer book.new) }
     ensures unchanged { OnErr result (book.new ≡ book.old) }
 {

@@ -18,9 +18,9 @@ use Rattle.sp_trees.specs.Nodes.{place_of}
 use Rattle.sp_declarations.specs.Steps.{in_turn}
 use Rattle.sp_checks.specs.declared.roles.Role.TheVariants as role
 use Rattle.sp_checks.specs.declared.items.Listed.{Listed}
-use Rattle.sp_checks.specs.Roles.{allowed}
+use Rattle.sp_checks.specs.Roles.{allowed_slots}
 use Rattle.sp_checks.specs.Accepted.{table_refusal}
-use Rattle.sp_checks.specs.Actions.{item, observed, or_identity, moves_of}
+use Rattle.sp_checks.specs.Actions.{item, observe_entry, or_identity, moves_of}
 use Rattle.sp_written.specs.Meanings.{WritesTree}
 use Rattle.sp_written.proofs.Lines.{in_turn_both, in_turn_alone}
 use Rattle.sp_written.proofs.Items.{writes_variable, writes_observed}
@@ -65,7 +65,7 @@ module _ (env : Env) where
   pub record IsLine (action : ℕ) (t : Table) (p : Place) (depth : ℕ) (l : Line) : Type 0 where
     pub name : IsNameWord l.name
     pub place : place_of env l.name ≡ Some p
-    pub writes : WritesTree env (allowed env.scope (role.Table t)) l.dd depth l.signs
+    pub writes : WritesTree env (allowed_slots env.scope (role.Table t)) l.dd depth l.signs
     pub sound : (at : ℕ) → table_refusal env.scope.variables action t at l.dd.func ≡ None
 
   abbrev pub AreMoves : ℕ → ℕ → ℕ → List (Option Line) → Type 0
@@ -115,11 +115,11 @@ module _ (env : Env) where
 
   -- ---- the list of observe
   abbrev pub Observes : Listed → Listed → ℕ → List Spelled → Type 0
-  Observes l m depth us = Written (AreAll IsObserved) (λ source xs. in_turn (observed env source) l xs ≡ Ok m) depth us
+  Observes l m depth us = Written (AreAll IsObserved) (λ source xs. in_turn (observe_entry env source) l xs ≡ Ok m) depth us
 
   observes_nothing : (l : Listed) (depth : ℕ) → Observes l l depth []
   unfolding in_turn
-  observes_nothing l depth = deeper (AreAll IsObserved) _ [] 0 depth (omega arith) (written_nothing IsObserved (λ source xs. in_turn (observed env source) l xs ≡ Ok l) (λ source. refl))
+  observes_nothing l depth = deeper (AreAll IsObserved) _ [] 0 depth (omega arith) (written_nothing IsObserved (λ source xs. in_turn (observe_entry env source) l xs ≡ Ok l) (λ source. refl))
 
   -- the lines of observation variables from the number of those done on
   pub observes_sights : (l : Listed) (done : List (Option Func)) (depth : ℕ) (ls : List Line) → l.sights ≡ done ++ map (λ o. None) ls → AreSights l.action depth (length done) ls
@@ -133,13 +133,13 @@ module _ (env : Env) where
       let is = are.0 in
       let m : Listed = record l { sights = slice_set l.sights (length done) (Some x.dd.func) } in
       written_lists IsObserved _ _ _ (line_signs x) (sight_signs ls) depth
-      (written_alone IsObserved (λ source y. observed env source l y ≡ Ok (record l { sights = slice_set l.sights (length done) (Some x.dd.func) }))
-      (λ source ys. in_turn (observed env source) l ys ≡ Ok (record l { sights = slice_set l.sights (length done) (Some x.dd.func) })) (line_signs x) depth
+      (written_alone IsObserved (λ source y. observe_entry env source l y ≡ Ok (record l { sights = slice_set l.sights (length done) (Some x.dd.func) }))
+      (λ source ys. in_turn (observe_entry env source) l ys ≡ Ok (record l { sights = slice_set l.sights (length done) (Some x.dd.func) })) (line_signs x) depth
       (writes_observed env l x.name is.name x.dd x.signs depth (length done) is.place (ap (λ ts. is_some (slice_index_or ts (length done) None)) none ∙ ap is_some (at_end done None None (map (λ o. None) ls))) is.sound is.writes)
-      (λ source y h. in_turn_alone (observed env source) l (record l { sights = slice_set l.sights (length done) (Some x.dd.func) }) y h))
+      (λ source y h. in_turn_alone (observe_entry env source) l (record l { sights = slice_set l.sights (length done) (Some x.dd.func) }) y h))
       (subst (λ ts. Observes (record l { sights = slice_set l.sights (length done) (Some x.dd.func) }) (record l { sights = ts }) depth (sight_signs ls)) (append_assoc done (Some x.dd.func ∷ []) (map sight_table ls))
       (observes_sights (record l { sights = slice_set l.sights (length done) (Some x.dd.func) }) (done ++ Some x.dd.func ∷ []) depth ls written (subst (λ j. AreSights l.action depth j ls) next are.1)))
-      (λ source ys zs h k. in_turn_both (observed env source) l (record l { sights = slice_set l.sights (length done) (Some x.dd.func) }) (Ok (record l { sights = done ++ map sight_table (x ∷ ls) })) ys zs h k)
+      (λ source ys zs h k. in_turn_both (observe_entry env source) l (record l { sights = slice_set l.sights (length done) (Some x.dd.func) }) (Ok (record l { sights = done ++ map sight_table (x ∷ ls) })) ys zs h k)
 
 -- ---- the tables of all variables
 -- each line's table, or that of a variable that keeps its value

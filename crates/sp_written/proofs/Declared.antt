@@ -25,7 +25,7 @@ use Rattle.sp_declarations.specs.declared.declarations.Limits.{Limits}
 use Rattle.sp_declarations.specs.declared.declarations.Read.{Read}
 use Rattle.sp_declarations.specs.declared.declarations.Declared.{Declared}
 use Rattle.sp_declarations.specs.Steps.{◌>>=◌, unless_refused, in_turn}
-use Rattle.sp_declarations.specs.Declarations.{refused, value, value_refusal, values, declaration, name_refusal, with_decl, declarations, declarations_of, no_decls, variable_limits, sight_limits}
+use Rattle.sp_declarations.specs.Declarations.{refusal_at, value, value_refusal, values, declaration, name_refusal, with_decl, declarations, declarations_of, no_decls, variable_limits, sight_limits}
 use Rattle.sp_written.proofs.Lines.{in_turn_both, in_turn_alone}
 
 -- ---- values
@@ -43,7 +43,7 @@ values_read source (s ∷ spans) before (w ∷ ws) e h =
     let here : text source s ≡ w = cc in
     let rest : map (text source) spans ≡ ws = cc in
     ap (λ v. (unless_refused (value_refusal before v s.start) >>= λ _. Ok (before ++ v ∷ [])) >>= λ b. in_turn (value source) b spans) here
-    ∙ ap (λ b. (unless_refused (if b then refused s.start kind.RepeatedName else refused_if (length before == 64) s.start (kind.TooMany 64)) >>= λ _. Ok (before ++ w ∷ [])) >>= λ b. in_turn (value source) b spans) h.0
+    ∙ ap (λ b. (unless_refused (if b then refusal_at s.start kind.RepeatedName else refused_if (length before == 64) s.start (kind.TooMany 64)) >>= λ _. Ok (before ++ w ∷ [])) >>= λ b. in_turn (value source) b spans) h.0
     ∙ ap (λ b. (unless_refused (refused_if b s.start (kind.TooMany 64)) >>= λ _. Ok (before ++ w ∷ [])) >>= λ b. in_turn (value source) b spans) h.1
     ∙ values_read source spans (before ++ w ∷ []) ws rest h.2 ∙ ap Ok (append_assoc before (w ∷ []) ws)
 
@@ -65,7 +65,7 @@ declaration_read source l r left n spans right w ws room said e =
     let long : length spans ≡ length ws = sym (length-map spans (text source)) ∙ ap length e in
     let d : Declaration = record { left = left; name = n; values = spans; right = right } in
     let last : Result Read Refusal = in_turn (value source) [] spans >>= λ vs. Ok (with_decl source r (record { left = left; name = n; values = spans; right = right }) (record { name = text source n; values = vs })) in
-    ap (λ b. unless_refused (if b then refused left.start (kind.TooMany l.most) else refused_if (nat_lt l.points (r.points * length spans)) left.start (kind.TooMany l.points))
+    ap (λ b. unless_refused (if b then refusal_at left.start (kind.TooMany l.most) else refused_if (nat_lt l.points (r.points * length spans)) left.start (kind.TooMany l.points))
     >>= λ _. (unless_refused (name_refusal source r.names (record { left = left; name = n; values = spans; right = right }))
     >>= λ _. ((in_turn (value source) [] spans >>= λ vs. Ok (let c : Decl = record { name = text source n; values = vs } in c)) >>= λ c. Ok (with_decl source r (record { left = left; name = n; values = spans; right = right }) c)))) room.few
     ∙ ap (λ b. unless_refused (refused_if b left.start (kind.TooMany l.points))

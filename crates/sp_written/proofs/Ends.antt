@@ -23,7 +23,7 @@ use Rattle.sp_checks.specs.declared.roles.Role.TheVariants as role
 use Rattle.sp_checks.specs.declared.accepted.Accepted.{Accepted}
 use Rattle.sp_checks.specs.declared.state.Draft.{Draft}
 use Rattle.sp_checks.specs.declared.state.State.{State}
-use Rattle.sp_checks.specs.Roles.{allowed}
+use Rattle.sp_checks.specs.Roles.{allowed_slots}
 use Rattle.sp_checks.specs.Accepted.{accepted}
 use Rattle.sp_checks.specs.Sections.{section, reward, discount, discount_of, discount_by}
 use Rattle.sp_checks.specs.Finish as ends
@@ -34,13 +34,13 @@ use Rattle.sp_written.proofs.Items.{accepted_ok}
 
 module _ (s : State) where
   -- the reward
-  pub leads_reward : (d : Dd) (us : List Spelled) (depth : ℕ) → s.reward ≡ None → WritesTree s.env (allowed s.env.scope role.Reward) d depth us
+  pub leads_reward : (d : Dd) (us : List Spelled) (depth : ℕ) → s.reward ≡ None → WritesTree s.env (allowed_slots s.env.scope role.Reward) d depth us
       → Leads s (record s { reward = Some d.func }) depth (spaced_word (codes "reward") ∷ us)
   unfolding reward
   leads_reward d us depth new part = leads_one s (record s { reward = Some d.func }) depth (spaced_word (codes "reward") ∷ us)
-      (written_reward us depth (Means s.env (allowed s.env.scope role.Reward) d) part (λ source x. section source s x ≡ Ok (record s { reward = Some d.func })) (λ source k t means. read source k t means))
+      (written_reward us depth (Means s.env (allowed_slots s.env.scope role.Reward) d) part (λ source x. section source s x ≡ Ok (record s { reward = Some d.func })) (λ source k t means. read source k t means))
     where
-      read : (source : List ℕ) (k : Span) (t : Tree) → Means s.env (allowed s.env.scope role.Reward) d source t → reward source s k t ≡ Ok (record s { reward = Some d.func })
+      read : (source : List ℕ) (k : Span) (t : Tree) → Means s.env (allowed_slots s.env.scope role.Reward) d source t → reward source s k t ≡ Ok (record s { reward = Some d.func })
       read source k t means =
           ap (λ (o : Option Func). unless_refused (refused_if (is_some o) k.start kind.RepeatedName) >>= λ _. (accepted s.env source role.Reward t >>= λ a. Ok (record s { reward = Some a.func }))) new
           ∙ ap (λ o. o >>= λ (a : Accepted). Ok (record s { reward = Some a.func })) (accepted_ok s.env source role.Reward t d means)

@@ -14,14 +14,14 @@ use Rattle.sp_trees.specs.declared.env.Dd.{Dd}
 use Rattle.sp_trees.specs.declared.judged.Judged.{Judged}
 use Rattle.sp_trees.specs.Refusals.{lesser, refused_if}
 use Rattle.sp_trees.specs.Slots.{none, union, has}
-use Rattle.sp_trees.specs.Judge.{judged}
+use Rattle.sp_trees.specs.Judge.{judgement}
 use Rattle.sp_written.specs.Acceptance.{acceptance_of, mentions_of}
 use Rattle.sp_declarations.specs.Steps.{◌>>=◌, unless_refused, in_turn}
 use Rattle.sp_checks.specs.declared.roles.Role.TheVariants as role
 use Rattle.sp_checks.specs.declared.initial.Share.{Share}
 use Rattle.sp_checks.specs.declared.initial.Factored.{Factored}
 use Rattle.sp_checks.specs.declared.state.State.{State}
-use Rattle.sp_checks.specs.Roles.{allowed}
+use Rattle.sp_checks.specs.Roles.{allowed_slots}
 use Rattle.sp_checks.specs.Initial.{own_of, shares, value_refusal, factor, factor_step, owned, checked_share, factors, factors_in_turn, has_every, factor_trees, trees_by, init, share_of}
 use Rattle.sp_written.proofs.Lines.{Leads, leads_one}
 use Rattle.sp_spelled.specs.Signs.{Spelled, line}
@@ -150,25 +150,25 @@ product_trees : (left star : Span) (list : List Tree) (right : Span) → factor_
 product_trees left star list right = ap factor_trees (sym (tree.rolls-Product left star list right)) ∙ ap (trees_by (roll-Tree (Tree-F.Product left star list right))) (out-roll-Tree (Tree-F.Product left star list right))
 
 module _ (s : State) where
-  shares_are : (source : List ℕ) (list : List Tree) (ds : List Dd) → map (judged s.env source (allowed s.env.scope role.Init)) list ≡ map acceptance_of ds → AreShares (map (share_of s.env source) list) ds
+  shares_are : (source : List ℕ) (list : List Tree) (ds : List Dd) → map (judgement s.env source (allowed_slots s.env.scope role.Init)) list ≡ map acceptance_of ds → AreShares (map (share_of s.env source) list) ds
   shares_are source [] [] h = tt
   shares_are source [] (d ∷ ds) h = cc
   shares_are source (t ∷ list) [] h = cc
-  shares_are source (t ∷ list) (d ∷ ds) h = (let e : judged s.env source (allowed s.env.scope role.Init) t ≡ acceptance_of d = cc in e, shares_are source list ds (let e : map (judged s.env source (allowed s.env.scope role.Init)) list ≡ map acceptance_of ds = cc in e))
+  shares_are source (t ∷ list) (d ∷ ds) h = (let e : judgement s.env source (allowed_slots s.env.scope role.Init) t ≡ acceptance_of d = cc in e, shares_are source list ds (let e : map (judgement s.env source (allowed_slots s.env.scope role.Init)) list ≡ map acceptance_of ds = cc in e))
 
   -- the section is read, where each factor's tree is accepted
-  pub leads_init : (depth : ℕ) (us : List (List Spelled)) (d : Dd) (ds : List Dd) (owns : List (List ℕ)) → s.init ≡ None → AreWritten s.env (allowed s.env.scope role.Init) depth us (d ∷ ds)
+  pub leads_init : (depth : ℕ) (us : List (List Spelled)) (d : Dd) (ds : List Dd) (owns : List (List ℕ)) → s.init ≡ None → AreWritten s.env (allowed_slots s.env.scope role.Init) depth us (d ∷ ds)
       → AreFactorsOk s.env.scope.variables none (d ∷ ds) owns → has_every s.env.scope.variables (mentions_of none (d ∷ ds)) ≡ true
       → Leads s (record s { init = Some (factors_of (d ∷ ds) owns) }) (suc depth) (spaced_word (codes "init") ∷ product_group (list_signs us) line)
   unfolding init
   leads_init depth us d ds owns new h ok every =
       leads_one s (record s { init = Some (factors_of (d ∷ ds) owns) }) (suc depth) (spaced_word (codes "init") ∷ product_group (list_signs us) line)
-      (written_init (product_group (list_signs us) line) (suc depth) (λ source t. map (judged s.env source (allowed s.env.scope role.Init)) (factor_trees t) ≡ map acceptance_of (d ∷ ds))
-      (written_product (list_signs us) line depth _ _ (writes_list s.env (allowed s.env.scope role.Init) depth us (d ∷ ds) h) (λ source list e. some_trees s.env (allowed s.env.scope role.Init) source d ds list e)
-      (λ source left at list right e. ap (map (judged s.env source (allowed s.env.scope role.Init))) (product_trees left at list right) ∙ e))
+      (written_init (product_group (list_signs us) line) (suc depth) (λ source t. map (judgement s.env source (allowed_slots s.env.scope role.Init)) (factor_trees t) ≡ map acceptance_of (d ∷ ds))
+      (written_product (list_signs us) line depth _ _ (writes_list s.env (allowed_slots s.env.scope role.Init) depth us (d ∷ ds) h) (λ source list e. some_trees s.env (allowed_slots s.env.scope role.Init) source d ds list e)
+      (λ source left at list right e. ap (map (judgement s.env source (allowed_slots s.env.scope role.Init))) (product_trees left at list right) ∙ e))
       _ (λ source k t e. init_read source k t e))
     where
-      init_read : (source : List ℕ) (k : Span) (t : Tree) → map (judged s.env source (allowed s.env.scope role.Init)) (factor_trees t) ≡ map acceptance_of (d ∷ ds) → init source s k t ≡ Ok (record s { init = Some (factors_of (d ∷ ds) owns) })
+      init_read : (source : List ℕ) (k : Span) (t : Tree) → map (judgement s.env source (allowed_slots s.env.scope role.Init)) (factor_trees t) ≡ map acceptance_of (d ∷ ds) → init source s k t ≡ Ok (record s { init = Some (factors_of (d ∷ ds) owns) })
       init_read source k t e =
           ap (λ (o : Option (List Factor)). unless_refused (refused_if (is_some o) k.start kind.RepeatedName) >>= λ _.
           (factors s.env.scope.variables k.start (map (share_of s.env source) (factor_trees t)) >>= λ fs. Ok (record s { init = Some fs }))) new

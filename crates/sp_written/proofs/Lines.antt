@@ -28,10 +28,10 @@ use Rattle.sp_trees.specs.declared.nodes.Place.{Place}
 use Rattle.sp_trees.specs.Refusals.{refused_if}
 use Rattle.sp_trees.specs.Slots.{has, is_among}
 use Rattle.sp_trees.specs.Words.{text}
-use Rattle.sp_trees.specs.Dds.{found}
+use Rattle.sp_trees.specs.Dds.{dd_of_name}
 use Rattle.sp_trees.specs.Nodes.{place_of, values_of, slot_of, is_sayable}
 use Rattle.sp_written.specs.Acceptance.{branched_dd}
-use Rattle.sp_written.specs.Meanings.{Means, WritesTree, constant_dd, AreWritten, AreNumbered, part_dd, node_dd, dds_of, branch_signs}
+use Rattle.sp_written.specs.Meanings.{Means, WritesTree, constant_dd, AreWritten, AreNamesFrom, part_dd, node_dd, dds_of, branch_signs}
 use Rattle.sp_written.proofs.Trees.{writes_number, writes_reference, writes_node, writes_primed, nodes_among, root_means}
 use Rattle.sp_dd.specs.Func.{Func, IsFunc, IsScope}
 use Rattle.sp_dd.specs.Diagrams.{node_list, root_part}
@@ -39,7 +39,7 @@ use Rattle.std.proofs.lemmas.List.{get_or_append_left}
 use Rattle.sp_declarations.specs.Steps.{◌>>=◌, unless_refused, in_turn}
 use Rattle.sp_checks.specs.declared.roles.Role.TheVariants as role
 use Rattle.sp_checks.specs.declared.state.State.{State}
-use Rattle.sp_checks.specs.Roles.{allowed}
+use Rattle.sp_checks.specs.Roles.{allowed_slots}
 use Rattle.sp_checks.specs.Accepted.{accepted, accepted_by}
 use Rattle.sp_checks.specs.Sections.{section, dd}
 
@@ -80,17 +80,17 @@ module _ (s : State) (dds : List (List ℕ × Dd)) (w : List ℕ) (d : Dd) (us :
   abbrev env_of : Env
   env_of = record s.env { dds = dds }
 
-  dd_read : (source : List ℕ) (k n : Span) (t : Tree) → text source n ≡ w → found w dds ≡ None → Means env_of (allowed s.env.scope role.Dd) d source t → dd source (with_dds s dds) n t ≡ Ok (with_dds s (dds ++ (w, d) ∷ []))
+  dd_read : (source : List ℕ) (k n : Span) (t : Tree) → text source n ≡ w → dd_of_name w dds ≡ None → Means env_of (allowed_slots s.env.scope role.Dd) d source t → dd source (with_dds s dds) n t ≡ Ok (with_dds s (dds ++ (w, d) ∷ []))
   unfolding dd accepted
   dd_read source k n t said new means =
-      ap (λ (o : Option Dd). unless_refused (refused_if (is_some o) n.start kind.RepeatedName) >>= λ _. (accepted env_of source role.Dd t >>= λ a. Ok (with_dds s (dds ++ (text source n, record { mentions = a.mentions; func = a.func }) ∷ [])))) (ap (λ v. found v dds) said ∙ new)
+      ap (λ (o : Option Dd). unless_refused (refused_if (is_some o) n.start kind.RepeatedName) >>= λ _. (accepted env_of source role.Dd t >>= λ a. Ok (with_dds s (dds ++ (text source n, record { mentions = a.mentions; func = a.func }) ∷ [])))) (ap (λ v. dd_of_name v dds) said ∙ new)
       ∙ ap (λ (j : Judged). accepted_by j.mentions j.outcome >>= λ a. Ok (with_dds s (dds ++ (text source n, record { mentions = a.mentions; func = a.func }) ∷ []))) means
       ∙ ap (λ v. Ok (with_dds s (dds ++ (v, d) ∷ []))) said
 
-  pub leads_dd : IsNameWord w → found w dds ≡ None → WritesTree env_of (allowed s.env.scope role.Dd) d depth us
+  pub leads_dd : IsNameWord w → dd_of_name w dds ≡ None → WritesTree env_of (allowed_slots s.env.scope role.Dd) d depth us
       → Leads (with_dds s dds) (with_dds s (dds ++ (w, d) ∷ [])) depth (spaced_word (codes "dd") ∷ spaced_word w ∷ (us ++ last_word (codes "enddd") ∷ []))
   leads_dd named new part = leads_one (with_dds s dds) (with_dds s (dds ++ (w, d) ∷ [])) depth (spaced_word (codes "dd") ∷ spaced_word w ∷ (us ++ last_word (codes "enddd") ∷ []))
-      (written_dd us depth (Means env_of (allowed s.env.scope role.Dd) d) part w named _ (λ source k n t e said means. dd_read source k n t said new means))
+      (written_dd us depth (Means env_of (allowed_slots s.env.scope role.Dd) d) part w named _ (λ source k n t e said means. dd_read source k n t said new means))
 
 -- ---- the dds of a function's nodes
 -- how a text names a slot
@@ -104,8 +104,8 @@ pub record IsSaidSo (env : Env) (slot : ℕ) (said : Said) : Type 0 where
   pub place : place_of env said.name ≡ Some said.place
   pub slot_is : slot_of env said.is_primed said.place ≡ slot
   pub sayable : is_sayable said.is_primed said.place ≡ true
-  pub numbered : AreNumbered (values_of env said.place) 0 (values_of env said.place)
-  pub mention : has (allowed env.scope role.Dd) slot ≡ true
+  pub numbered : AreNamesFrom (values_of env said.place) 0 (values_of env said.place)
+  pub mention : has (allowed_slots env.scope role.Dd) slot ≡ true
 
 get_or_behind : (xs ys : List Dd) (k : ℕ) (d : Dd) → get_or (xs ++ ys) (length xs + k) d ≡ get_or ys k d
 get_or_behind [] ys k d = let e : 0 + k ≡ k = omega arith in ap (λ j. get_or ys j d) e
@@ -134,7 +134,7 @@ module _ (name_of : ℕ → List ℕ) (names : AreNames name_of) where
       go true e = absurd (h (names.differ j k lj lk ((bytes_eq-Decides (name_of j) (name_of k)).0 e)))
       go false e = e
 
-  found_numbered : (k i j : ℕ) (ds : List Dd) (d : Dd) → k + length ds ≤ 2 ^ 64 → i < length ds → j ≡ k + i → found (name_of j) (numbered k ds) ≡ Some (get_or ds i d)
+  found_numbered : (k i j : ℕ) (ds : List Dd) (d : Dd) → k + length ds ≤ 2 ^ 64 → i < length ds → j ≡ k + i → dd_of_name (name_of j) (numbered k ds) ≡ Some (get_or ds i d)
   found_numbered k i j [] d l h e = absurd (omega arith)
   found_numbered k zero j (c ∷ ds) d l h e =
       let same : j ≡ k = omega arith in
@@ -143,7 +143,7 @@ module _ (name_of : ℕ → List ℕ) (names : AreNames name_of) where
       ap (λ b. option_map (λ x. x.1) (cond b (Some (name_of k, c)) (find (λ x. bytes_eq (name_of j) x.0) (numbered (suc k) ds)))) (other_name j k (omega arith) (omega arith) (λ same. omega arith))
       ∙ found_numbered (suc k) i j ds d (omega arith) (omega arith) (omega arith)
 
-  found_none : (k j : ℕ) (ds : List Dd) → k + length ds ≤ j → j < 2 ^ 64 → found (name_of j) (numbered k ds) ≡ None
+  found_none : (k j : ℕ) (ds : List Dd) → k + length ds ≤ j → j < 2 ^ 64 → dd_of_name (name_of j) (numbered k ds) ≡ None
   found_none k j [] l h = refl
   found_none k j (c ∷ ds) l h =
       ap (λ b. option_map (λ x. x.1) (cond b (Some (name_of k, c)) (find (λ x. bytes_eq (name_of j) x.0) (numbered (suc k) ds)))) (other_name j k h (omega arith) (λ same. omega arith))
@@ -164,7 +164,7 @@ module _ (name_of : ℕ → List ℕ) (names : AreNames name_of) where
     ArePartsSo m (a ∷ parts) = IsPartSo m a × ArePartsSo m parts
 
     abbrev every : Slots
-    every = allowed s.env.scope role.Dd
+    every = allowed_slots s.env.scope role.Dd
 
     abbrev state_with : List Dd → State
     state_with all = with_dds s (numbered 0 all)
@@ -270,7 +270,7 @@ module _ (name_of : ℕ → List ℕ) (names : AreNames name_of) where
     -- ---- one function
     -- the names from base on are those of these dds
     pub record HasDds (all : List Dd) (base : ℕ) (made : List Dd) : Type 0 where
-      pub is : (i : ℕ) (d : Dd) → i < length made → found (name_of (base + i)) (numbered 0 all) ≡ Some (get_or made i d)
+      pub is : (i : ℕ) (d : Dd) → i < length made → dd_of_name (name_of (base + i)) (numbered 0 all) ≡ Some (get_or made i d)
       pub few : base + length made ≤ 2 ^ 64
 
     pub has_within : (before made after : List Dd) → length before + length made + length after ≤ 2 ^ 64 → HasDds (before ++ (made ++ after)) (length before) made

@@ -4,7 +4,7 @@ use Rattle.sp_lex.proofs.Unique.{cut_alone}
 use Rattle.sp_model.specs.declared.parts.Parts.{Parts}
 use Rattle.sp_checks.specs.Meaning.{meaning}
 use Rattle.sp_checks.proofs.TextLemmas.{text_answers}
-use Rattle.sp_spelled.specs.Signs.{printed}
+use Rattle.sp_spelled.specs.Signs.{text_of_signs}
 use Rattle.sp_spelled.specs.Written.{HasTree}
 use Rattle.sp_spelled.proofs.Texts.{written_is_read}
 use Rattle.sp_reader.specs.Sources.{Reads}
@@ -17,4 +17,4 @@ reads_tree source parts h =
     (h.tree, (h.tokens, h.lexed, h.answers), answers.0, answers.1)
 
 pub written_models : WrittenModelsAreRead
-written_models parts depth signs few written = reads_tree (printed signs) parts (written_is_read (λ s t. meaning s t ≡ Ok parts) depth signs few written)
+written_models parts depth signs few written = reads_tree (text_of_signs signs) parts (written_is_read (λ s t. meaning s t ≡ Ok parts) depth signs few written)

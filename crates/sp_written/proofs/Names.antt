@@ -8,12 +8,12 @@ use Rattle.std.specs.List.{prefix_len}
 use Rattle.std.proofs.lemmas.Bool.Decides.{nat_tests}
 use Rattle.sp_syntax.specs.declared.class.WordClass.TheVariants as word
 use Rattle.sp_syntax.specs.Classes.{word_class, section_keyword, inner_keyword, plain_class, or_else}
-use Rattle.sp_model.specs.Words.{IsName, IsValueName, BeginsName, keywords}
+use Rattle.sp_model.specs.Words.{IsModelName, IsValueName, BeginsName, keywords}
 use Rattle.sp_model.specs.Kept.{AreDifferent}
 use Rattle.sp_spelled.specs.Signs.{IsWordText}
 use Rattle.sp_trees.specs.Words.{number_of}
 use Rattle.sp_spelled.specs.Written.{IsNameWord}
-use Rattle.sp_written.specs.Meanings.{AreNumbered}
+use Rattle.sp_written.specs.Meanings.{AreNamesFrom}
 
 pub differs : (w k : List ℕ) → w ≢ k → bytes_eq w k ≡ false
 differs w k h = go (bytes_eq w k) refl
@@ -58,7 +58,7 @@ begins (b ∷ bs) h = go (is_ascii_alphabetic b || b == 95) h
     go false e = cc
 
 -- a model's name has the class of names
-pub named : (w : List ℕ) → IsName w → IsNameWord w
+pub named : (w : List ℕ) → IsModelName w → IsNameWord w
 unfolding word_class
 named w h = record {
   text = record { some = h.value.some; bytes = h.value.bytes };
@@ -78,14 +78,14 @@ position_is xs k d l h =
     ap (λ n. cond (nat_lt n (length xs)) (Some n) None) first ∙ ap (λ b. cond b (Some k) None) within
 
 -- the values of a variable by number
-numbered_from : (names : List (List ℕ)) (k : ℕ) (xs : List (List ℕ)) → ((i : ℕ) → i < length xs → IsWordText (get_or xs i []) × (number_of names (get_or xs i []) ≡ Some (k + i))) → AreNumbered names k xs
+numbered_from : (names : List (List ℕ)) (k : ℕ) (xs : List (List ℕ)) → ((i : ℕ) → i < length xs → IsWordText (get_or xs i []) × (number_of names (get_or xs i []) ≡ Some (k + i))) → AreNamesFrom names k xs
 numbered_from names k [] h = tt
 numbered_from names k (x ∷ xs) h =
     let first = h 0 (omega arith) in
     let here : k + 0 ≡ k = omega arith in
     (first.0, first.1 ∙ ap Some here, numbered_from names (k + 1) xs (λ i l. (let more = h (suc i) (omega arith) in let next : k + suc i ≡ k + 1 + i = omega arith in (more.0, more.1 ∙ ap Some next))))
 
-pub numbered_values : (names : List (List ℕ)) → All IsValueName names → AreDifferent names → AreNumbered names 0 names
+pub numbered_values : (names : List (List ℕ)) → All IsValueName names → AreDifferent names → AreNamesFrom names 0 names
 numbered_values names each different = numbered_from names 0 names (λ i l. (
   let is = each i [] l in record { some = is.some; bytes = is.bytes },
   position_is names i [] l (λ a b less m. different a b [] less m) ∙ (let e : i ≡ 0 + i = omega arith in ap Some e),

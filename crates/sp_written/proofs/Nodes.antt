@@ -17,7 +17,7 @@ use Rattle.sp_trees.specs.Slots.{none, one, union, has}
 use Rattle.sp_trees.specs.Judged.{refusal, inside_branches, mentioned_in_branches}
 use Rattle.sp_trees.specs.Nodes.{values_of, branching_on, is_value, lists, value_row_by, value_row, value_rows, lists_all, node_rows, part, part_by, branch_at, then_part, parts_from, chosen_by, node_by, known_node}
 use Rattle.sp_trees.specs.Judge as judge
-use Rattle.sp_trees.specs.Judge.{Branched, listed}
+use Rattle.sp_trees.specs.Judge.{Branched, listed_branch}
 use Rattle.sp_written.specs.Acceptance.{acceptance_of, AreBranched, mentions_of, funcs_of, branched_dd, NodesAreAccepted}
 
 -- branches of the values from k on, whose trees mean these
@@ -135,7 +135,7 @@ known_ok s allowed n ls ds h count sayable mention =
     let made : node_by s n ls (node_rows allowed n ls) ≡ Ok (part_chosen s n.slot (funcs_of ds)) = ap (node_by s n ls) none_refused ∙ ap (chosen_by s n.slot) parts in
     (λ i. record { mentions = mentions_are 0 (one n.slot) ls ds h i; outcome = made i })
 
-listed_of : (source : List ℕ) (names : List (List ℕ)) (k : ℕ) (bs : List Branched) (ds : List Dd) → AreBranched source names k bs ds → AreListed k (map (listed source names) bs) ds
+listed_of : (source : List ℕ) (names : List (List ℕ)) (k : ℕ) (bs : List Branched) (ds : List Dd) → AreBranched source names k bs ds → AreListed k (map (listed_branch source names) bs) ds
 listed_of source names k [] [] h = tt
 listed_of source names k [] (d ∷ ds) h = absurd h
 listed_of source names k (b ∷ bs) [] h = absurd h
@@ -144,6 +144,6 @@ listed_of source names k (b ∷ bs) (d ∷ ds) h = (h.0, h.1, listed_of source n
 pub accepted_nodes : NodesAreAccepted
 accepted_nodes env source allowed is_primed left word bs p slot ds said h count =
     ap (judge.node_by env source allowed is_primed left word bs) said.place
-    ∙ known_ok env.scope allowed (branching_on env is_primed p left.start word.start) (map (listed source (values_of env p)) bs) ds (listed_of source (values_of env p) 0 bs ds h) count said.sayable
+    ∙ known_ok env.scope allowed (branching_on env is_primed p left.start word.start) (map (listed_branch source (values_of env p)) bs) ds (listed_of source (values_of env p) 0 bs ds h) count said.sayable
     (ap (has allowed) said.slot_is ∙ said.mention)
     ∙ ap (λ k. acceptance_of (branched_dd env k ds)) said.slot_is

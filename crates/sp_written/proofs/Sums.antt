@@ -19,8 +19,8 @@ use Rattle.sp_trees.specs.declared.lists.Op.TheVariants as op
 use Rattle.sp_trees.specs.Slots.{none, union}
 use Rattle.sp_trees.specs.Conditions.{is_within}
 use Rattle.sp_trees.specs.Judged.{inside}
-use Rattle.sp_trees.specs.Judge.{judged}
-use Rattle.sp_trees.specs.Lists.{most, checked, at_bracket, then_more, steps, list_by, list_of, or_neutral}
+use Rattle.sp_trees.specs.Judge.{judgement}
+use Rattle.sp_trees.specs.Lists.{greatest_partial, partial_within_limit, at_bracket, then_more, steps, list_by, list_of, or_neutral}
 use Rattle.sp_written.specs.Acceptance.{acceptance_of, mentions_of}
 use Rattle.sp_written.specs.Meanings.{Means, WritesTree, AreWritten, list_signs}
 use Rattle.sp_trees.proofs.TreeLemmas.{sum_is}
@@ -38,14 +38,14 @@ abbrev pub AddNothing : Func → List Dd → Type 0
 AddNothing f [] = Unit {0}
 AddNothing f (z ∷ zs) = (plus f z.func ≡ f) × AddNothing f zs
 
-steps_nothing : (at : ℕ) (f : Func) (zs : List Dd) → is_within most f ≡ true → AddNothing f zs → steps op.Sum at (Some f) (map acceptance_of zs) ≡ Ok (Some f)
+steps_nothing : (at : ℕ) (f : Func) (zs : List Dd) → is_within greatest_partial f ≡ true → AddNothing f zs → steps op.Sum at (Some f) (map acceptance_of zs) ≡ Ok (Some f)
 unfolding steps
 steps_nothing at f [] small h = refl
 steps_nothing at f (z ∷ zs) small h =
-    let sum : checked (plus f z.func) ≡ Ok f = ap checked h.0 ∙ ap (λ b. if b then Ok f else Err kind.TooLarge) small in
+    let sum : partial_within_limit (plus f z.func) ≡ Ok f = ap partial_within_limit h.0 ∙ ap (λ b. if b then Ok f else Err kind.TooLarge) small in
     ap (λ r. then_more (at_bracket at r) (λ g. steps op.Sum at (Some g) (map acceptance_of zs))) sum ∙ steps_nothing at f zs small h.1
 
-pub sum_ok : (s : Shape) (at : ℕ) (d : Dd) (zs : List Dd) → is_within most d.func ≡ true → AddNothing d.func zs → list_of s op.Sum at (map acceptance_of (d ∷ zs)) ≡ acceptance_of (record { mentions = mentions_of none (d ∷ zs); func = d.func })
+pub sum_ok : (s : Shape) (at : ℕ) (d : Dd) (zs : List Dd) → is_within greatest_partial d.func ≡ true → AddNothing d.func zs → list_of s op.Sum at (map acceptance_of (d ∷ zs)) ≡ acceptance_of (record { mentions = mentions_of none (d ∷ zs); func = d.func })
 unfolding steps
 sum_ok s at d zs small h =
     let made : list_by s op.Sum at (inside (map acceptance_of (d ∷ zs))) (map acceptance_of (d ∷ zs)) ≡ Ok d.func =
@@ -61,7 +61,7 @@ total f (d ∷ ds) = total (plus f d.func) ds
 -- no partial sum is too large
 abbrev pub AreSmallSums : Func → List Dd → Type 0
 AreSmallSums f [] = Unit {0}
-AreSmallSums f (d ∷ ds) = (is_within most (plus f d.func) ≡ true) × AreSmallSums (plus f d.func) ds
+AreSmallSums f (d ∷ ds) = (is_within greatest_partial (plus f d.func) ≡ true) × AreSmallSums (plus f d.func) ds
 
 steps_total : (at : ℕ) (f : Func) (ds : List Dd) → AreSmallSums f ds → steps op.Sum at (Some f) (map acceptance_of ds) ≡ Ok (Some (total f ds))
 unfolding steps
@@ -78,18 +78,18 @@ total_ok s at d ds h =
 
 -- ---- as they are spelled
 module _ (env : Env) (allowed : Slots) where
-  pub writes_list : (depth : ℕ) (us : List (List Spelled)) (ds : List Dd) → AreWritten env allowed depth us ds → Written AreTrees (λ source list. map (judged env source allowed) list ≡ map acceptance_of ds) depth (list_signs us)
+  pub writes_list : (depth : ℕ) (us : List (List Spelled)) (ds : List Dd) → AreWritten env allowed depth us ds → Written AreTrees (λ source list. map (judgement env source allowed) list ≡ map acceptance_of ds) depth (list_signs us)
   writes_list depth [] [] h = deeper AreTrees _ [] 0 depth (omega arith) (written_no_trees _ (λ source. refl))
   writes_list depth [] (d ∷ ds) h = absurd h
   writes_list depth (u ∷ us) [] h = absurd h
   writes_list depth (u ∷ us) (d ∷ ds) h = written_more_trees u (list_signs us) depth (Means env allowed d) _ _ h.0 (writes_list depth us ds h.1) (λ source t list p q. λ i. p i ∷ q i)
 
-  pub some_trees : (source : List ℕ) (d : Dd) (ds : List Dd) (list : List Tree) → map (judged env source allowed) list ≡ map acceptance_of (d ∷ ds) → 0 < length list
+  pub some_trees : (source : List ℕ) (d : Dd) (ds : List Dd) (list : List Tree) → map (judgement env source allowed) list ≡ map acceptance_of (d ∷ ds) → 0 < length list
   some_trees source d ds [] h = cc
   some_trees source d ds (t ∷ list) h = omega arith
 
   -- a function, and functions that are 0
-  pub writes_sum : (depth : ℕ) (us : List (List Spelled)) (d : Dd) (zs : List Dd) (g : Gap) → AreWritten env allowed depth us (d ∷ zs) → is_within most d.func ≡ true → AddNothing d.func zs
+  pub writes_sum : (depth : ℕ) (us : List (List Spelled)) (d : Dd) (zs : List Dd) (g : Gap) → AreWritten env allowed depth us (d ∷ zs) → is_within greatest_partial d.func ≡ true → AddNothing d.func zs
       → WritesTree env allowed (record { mentions = mentions_of none (d ∷ zs); func = d.func }) (suc depth) (sum_group (list_signs us) g)
   writes_sum depth us d zs g h small nothing = written_sum (list_signs us) g depth _ _ (writes_list depth us (d ∷ zs) h) (λ source list e. some_trees source d zs list e)
       (λ source left at list right e. sum_is env source allowed left at list right ∙ ap (list_of env.scope op.Sum left.start) e ∙ sum_ok env.scope left.start d zs small nothing)

@@ -17,7 +17,7 @@ use Rattle.sp_dd.specs.declared.part.Part.{Part}
 use Rattle.sp_dd.specs.declared.part.Part.TheVariants.{Leaf, At}
 use Rattle.sp_dd.specs.Points.{IsPoint}
 use Rattle.sp_dd.specs.Func.{Shape, Func, IsScope, IsFunc, value_of, function_of}
-use Rattle.sp_dd.specs.NodeLists.{Node, part_value, chosen, values, node_value}
+use Rattle.sp_dd.specs.NodeLists.{Node, part_value, chosen_part, values, node_value}
 use Rattle.sp_dd.specs.Ordered.{at}
 use Rattle.sp_dd.specs.Diagrams.{node_list, root_part}
 use Rattle.sp_dd.proofs.FuncLemmas.{scope_some, value_of-function_of, same_function, IsFunc-function_of}
@@ -32,12 +32,12 @@ use Rattle.sp_trees.specs.declared.judged.Judged.{Judged}
 use Rattle.sp_trees.specs.declared.nodes.Place.{Place}
 use Rattle.sp_trees.specs.Words.{text, number_of}
 use Rattle.sp_trees.specs.Slots.{none, one, has, is_among}
-use Rattle.sp_trees.specs.Dds.{found}
+use Rattle.sp_trees.specs.Dds.{dd_of_name}
 use Rattle.sp_trees.specs.Single.{number_by, reference_by}
 use Rattle.sp_trees.specs.Nodes.{values_of}
-use Rattle.sp_trees.specs.Judge.{Branched, judged, branched, tree_step, branch_step}
+use Rattle.sp_trees.specs.Judge.{Branched, judgement, judgement_of_branch, tree_step, branch_step}
 use Rattle.sp_written.specs.Acceptance.{acceptance_of, AreBranched, funcs_of, branched_dd, IsSaid}
-use Rattle.sp_written.specs.Meanings.{Means, WritesTree, constant_dd, AreWritten, AreNumbered, gap_before, part_dd, node_dd, dds_of, branch_signs}
+use Rattle.sp_written.specs.Meanings.{Means, WritesTree, constant_dd, AreWritten, AreNamesFrom, gap_before, part_dd, node_dd, dds_of, branch_signs}
 use Rattle.sp_spelled.specs.Shapes.{leaf, group, primed_group}
 use Rattle.sp_spelled.specs.Words.{SpellsTicks}
 use Rattle.sp_spelled.specs.Written.{IsNameWord}
@@ -52,17 +52,17 @@ module _ (env : Env) (allowed : Slots) where
       ∙ ap (λ r. let j : Judged = record { mentions = none; outcome = number_by env.scope at.start r } in j) (ap ticks_of e ∙ h.ticks))
 
   -- a reference
-  pub writes_reference : (w : List ℕ) (d : Dd) (g : Gap) → IsNameWord w → found w env.dds ≡ Some d → is_among d.mentions allowed ≡ true → WritesTree env allowed d 1 (leaf w g)
+  pub writes_reference : (w : List ℕ) (d : Dd) (g : Gap) → IsNameWord w → dd_of_name w env.dds ≡ Some d → is_among d.mentions allowed ≡ true → WritesTree env allowed d 1 (leaf w g)
   writes_reference w d g h f among = written_reference w g (Means env allowed d) h.text h.name
       (λ source left at right e. reference_is env source allowed left at right
-      ∙ ap (reference_by allowed at.start) (ap (λ v. found v env.dds) e ∙ f)
+      ∙ ap (reference_by allowed at.start) (ap (λ v. dd_of_name v env.dds) e ∙ f)
       ∙ ap (λ b. let j : Judged = record { mentions = d.mentions; outcome = if b then Ok d.func else Err (record { at = at.start; kind = kind.BadScope }) } in j) among)
 
-  branched_is : (source : List ℕ) (left at : Span) (t : Tree) (right : Span) → branched env source allowed (roll-Branch (record { left = left; value = at; tree = t; right = right })) ≡ record { word = at; judged = judged env source allowed t }
+  branched_is : (source : List ℕ) (left at : Span) (t : Tree) (right : Span) → judgement_of_branch env source allowed (roll-Branch (record { left = left; value = at; tree = t; right = right })) ≡ record { word = at; judged = judgement env source allowed t }
   branched_is source left at t right = fold-roll-Branch Judged Branched (tree_step env source allowed) branch_step (record { left = left; value = at; tree = t; right = right })
 
-  writes_branches : (names : List (List ℕ)) (k depth : ℕ) (xs : List (List ℕ)) (us : List (List Spelled)) (ds : List Dd) → AreNumbered names k xs → length xs ≡ length ds → AreWritten env allowed depth us ds
-      → Written AreBranches (λ source bs. AreBranched source names k (map (branched env source allowed) bs) ds) (suc depth) (branch_signs xs us)
+  writes_branches : (names : List (List ℕ)) (k depth : ℕ) (xs : List (List ℕ)) (us : List (List Spelled)) (ds : List Dd) → AreNamesFrom names k xs → length xs ≡ length ds → AreWritten env allowed depth us ds
+      → Written AreBranches (λ source bs. AreBranched source names k (map (judgement_of_branch env source allowed) bs) ds) (suc depth) (branch_signs xs us)
   writes_branches names k depth [] [] [] n l h = deeper AreBranches _ [] 0 (suc depth) (omega arith) (written_no_branches _ (λ source. tt))
   writes_branches names k depth [] [] (d ∷ ds) n l h = absurd h
   writes_branches names k depth [] (u ∷ us) [] n l h = absurd h
@@ -72,9 +72,9 @@ module _ (env : Env) (allowed : Slots) where
   writes_branches names k depth (x ∷ xs) (u ∷ us) [] n l h = absurd h
   writes_branches names k depth (x ∷ xs) (u ∷ us) (d ∷ ds) n l h =
       written_more_branches (group x u (gap_before us)) (branch_signs xs us) (suc depth)
-      (λ source b. (number_of names (text source (branched env source allowed b).word) ≡ Some k) × ((branched env source allowed b).judged ≡ acceptance_of d))
-      (λ source bs. AreBranched source names (k + 1) (map (branched env source allowed) bs) ds)
-      (λ source bs. AreBranched source names k (map (branched env source allowed) bs) (d ∷ ds))
+      (λ source b. (number_of names (text source (judgement_of_branch env source allowed b).word) ≡ Some k) × ((judgement_of_branch env source allowed b).judged ≡ acceptance_of d))
+      (λ source bs. AreBranched source names (k + 1) (map (judgement_of_branch env source allowed) bs) ds)
+      (λ source bs. AreBranched source names k (map (judgement_of_branch env source allowed) bs) (d ∷ ds))
       (written_branch x u (gap_before us) depth (Means env allowed d) _ n.0 h.0
       (λ source left at t right e means. (
         ap (λ (b : Branched). number_of names (text source b.word)) (branched_is source left at t right) ∙ ap (number_of names) e ∙ n.1,
@@ -84,23 +84,23 @@ module _ (env : Env) (allowed : Slots) where
       (λ source b bs p q. (p.0, p.1, q))
 
   -- a node
-  some_branches : (source : List ℕ) (names : List (List ℕ)) (d : Dd) (ds : List Dd) (bs : List Branch) → AreBranched source names 0 (map (branched env source allowed) bs) (d ∷ ds) → 0 < length bs
+  some_branches : (source : List ℕ) (names : List (List ℕ)) (d : Dd) (ds : List Dd) (bs : List Branch) → AreBranched source names 0 (map (judgement_of_branch env source allowed) bs) (d ∷ ds) → 0 < length bs
   some_branches source names d ds [] h = absurd h
   some_branches source names d ds (b ∷ bs) h = omega arith
 
-  module _ (name : List ℕ) (p : Place) (slot depth : ℕ) (us : List (List Spelled)) (d : Dd) (ds : List Dd) (g : Gap) (named : IsNameWord name) (numbered : AreNumbered (values_of env p) 0 (values_of env p))
+  module _ (name : List ℕ) (p : Place) (slot depth : ℕ) (us : List (List Spelled)) (d : Dd) (ds : List Dd) (g : Gap) (named : IsNameWord name) (numbered : AreNamesFrom (values_of env p) 0 (values_of env p))
       (count : length (values_of env p) ≡ length (d ∷ ds)) (written : AreWritten env allowed depth us (d ∷ ds)) where
     pub writes_node : IsSaid env allowed false name p slot → WritesTree env allowed (branched_dd env slot (d ∷ ds)) (suc (suc depth)) (group name (branch_signs (values_of env p) us) g)
-    writes_node said = written_node name (branch_signs (values_of env p) us) g (suc depth) (λ source bs. AreBranched source (values_of env p) 0 (map (branched env source allowed) bs) (d ∷ ds)) (Means env allowed (branched_dd env slot (d ∷ ds)))
+    writes_node said = written_node name (branch_signs (values_of env p) us) g (suc depth) (λ source bs. AreBranched source (values_of env p) 0 (map (judgement_of_branch env source allowed) bs) (d ∷ ds)) (Means env allowed (branched_dd env slot (d ∷ ds)))
         named.text named.name (writes_branches (values_of env p) 0 depth (values_of env p) us (d ∷ ds) numbered count written) (λ source bs q. some_branches source (values_of env p) d ds bs q)
         (λ source left at bs right e q. node_is env source allowed left at bs right
-        ∙ accepted_nodes env source allowed false left at (map (branched env source allowed) bs) p slot (d ∷ ds) (subst (λ n. IsSaid env allowed false n p slot) (sym e) said) q count)
+        ∙ accepted_nodes env source allowed false left at (map (judgement_of_branch env source allowed) bs) p slot (d ∷ ds) (subst (λ n. IsSaid env allowed false n p slot) (sym e) said) q count)
 
     pub writes_primed : IsSaid env allowed true name p slot → WritesTree env allowed (branched_dd env slot (d ∷ ds)) (suc (suc depth)) (primed_group name (branch_signs (values_of env p) us) g)
-    writes_primed said = written_primed name (branch_signs (values_of env p) us) g (suc depth) (λ source bs. AreBranched source (values_of env p) 0 (map (branched env source allowed) bs) (d ∷ ds)) (Means env allowed (branched_dd env slot (d ∷ ds)))
+    writes_primed said = written_primed name (branch_signs (values_of env p) us) g (suc depth) (λ source bs. AreBranched source (values_of env p) 0 (map (judgement_of_branch env source allowed) bs) (d ∷ ds)) (Means env allowed (branched_dd env slot (d ∷ ds)))
         named.text named.name (writes_branches (values_of env p) 0 depth (values_of env p) us (d ∷ ds) numbered count written) (λ source bs q. some_branches source (values_of env p) d ds bs q)
         (λ source left at bs right e q. primed_is env source allowed left at bs right
-        ∙ accepted_nodes env source allowed true left at (map (branched env source allowed) bs) p slot (d ∷ ds) (subst (λ n. IsSaid env allowed true n p slot) (sym e) said) q count)
+        ∙ accepted_nodes env source allowed true left at (map (judgement_of_branch env source allowed) bs) p slot (d ∷ ds) (subst (λ n. IsSaid env allowed true n p slot) (sym e) said) q count)
 
 -- ---- lists
 pub all_push : (P : Dd → Type 0) (ds : List Dd) (d : Dd) → All P ds → P d → All P (ds ++ d ∷ [])
@@ -132,12 +132,12 @@ module _ (env : Env) (scope : IsScope env.scope) where
     part_means made (Leaf z) = constant_value z
     part_means made (At i) = sym (get_or-map value_at made i (constant_dd env (pos 0))) ∙ ap (get_or (map value_at made) i) (constant_value (pos 0))
 
-    node_means : (made : List Dd) (n : Node) → value_at (node_dd env made n) ≡ part_value (map value_at made) (chosen (at x) n)
+    node_means : (made : List Dd) (n : Node) → value_at (node_dd env made n) ≡ part_value (map value_at made) (chosen_part (at x) n)
     node_means made n =
         value_of-function_of env.scope (λ y. value_of (slice_index_or (funcs_of (map (part_dd env made) n.parts)) (slice_index y n.slot) (everywhere env.scope (pos 0))) y) x (scope_some env.scope scope) point
         ∙ ap (λ fs. value_of (get_or fs (get_or x n.slot 0) (everywhere env.scope (pos 0))) x) (map_map (λ (d : Dd). d.func) (part_dd env made) n.parts)
         ∙ ap (λ f. value_of f x) (get_or-map (λ a. (part_dd env made a).func) n.parts (get_or x n.slot 0) (Leaf (pos 0)))
-        ∙ part_means made (chosen (at x) n)
+        ∙ part_means made (chosen_part (at x) n)
 
     nodes_mean : (made : List Dd) (ns : List Node) → map value_at (dds_of env made ns) ≡ values (at x) (map value_at made) ns
     nodes_mean made [] = refl

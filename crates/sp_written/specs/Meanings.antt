@@ -14,12 +14,12 @@ use Rattle.sp_trees.specs.declared.env.Dd.{Dd}
 use Rattle.sp_trees.specs.declared.env.Env.{Env}
 use Rattle.sp_trees.specs.Words.{number_of}
 use Rattle.sp_trees.specs.Slots.{none}
-use Rattle.sp_trees.specs.Judge.{judged}
+use Rattle.sp_trees.specs.Judge.{judgement}
 use Rattle.sp_written.specs.Acceptance.{acceptance_of, branched_dd}
 
 -- in any source that spells it, the tree means this
 abbrev pub Means : Env → Slots → Dd → List ℕ → Tree → Type 0
-Means env allowed d source t = judged env source allowed t ≡ acceptance_of d
+Means env allowed d source t = judgement env source allowed t ≡ acceptance_of d
 
 -- the signs are a tree that means this
 abbrev pub WritesTree : Env → Slots → Dd → ℕ → List Spelled → Type 0
@@ -37,9 +37,9 @@ AreWritten env allowed depth (u ∷ us) [] = ⊥
 AreWritten env allowed depth (u ∷ us) (d ∷ ds) = WritesTree env allowed d depth u × AreWritten env allowed depth us ds
 
 -- the words are the names from k on
-abbrev pub AreNumbered : List (List ℕ) → ℕ → List (List ℕ) → Type 0
-AreNumbered names k [] = Unit {0}
-AreNumbered names k (x ∷ xs) = IsWordText x × (number_of names x ≡ Some k) × AreNumbered names (k + 1) xs
+abbrev pub AreNamesFrom : List (List ℕ) → ℕ → List (List ℕ) → Type 0
+AreNamesFrom names k [] = Unit {0}
+AreNamesFrom names k (x ∷ xs) = IsWordText x × (number_of names x ≡ Some k) × AreNamesFrom names (k + 1) xs
 
 abbrev pub gap_before : {X : Type 0} → List X → Gap
 gap_before [] = tight

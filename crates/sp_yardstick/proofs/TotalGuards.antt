@@ -10,7 +10,7 @@ use Rattle.sp_dd.specs.Func.{Func, Shape, IsScope, value_of, state_at, state_cou
 use Rattle.sp_dd.specs.Operations.{IsLeast, IsGreatest}
 use Rattle.sp_table.proofs.FrameLemmas.{point_within}
 use Rattle.sp_table.proofs.TotalLemmas.{Mentions-state_widths}
-use Rattle.sp_yardstick.specs.Guards.{AreWeights}
+use Rattle.sp_yardstick.specs.Guards.{AreGuardedWeights}
 
 -- one more factor
 product-last : (xs : List ℕ) (w : ℕ) → product (xs ++ w ∷ []) ≡ product xs * w
@@ -30,7 +30,7 @@ sum-most zero m f h = omega (arith, ints)
 sum-most (suc n) m f h = omega (arith, ints, sum-most n m f h, h n)
 
 -- weights that the greatest one bounds
-pub weights_are : (w : Func) (low high : ℤ) (s : Shape) (each : ℕ) → IsScope w.shape → s ≡ w.shape → IsLeast w low → IsGreatest w high → pos 0 ≤ℤ low → each ≡ unsigned_abs high → each * state_count s ≤ 2 ^ 62 → AreWeights w
+pub weights_are : (w : Func) (low high : ℤ) (s : Shape) (each : ℕ) → IsScope w.shape → s ≡ w.shape → IsLeast w low → IsGreatest w high → pos 0 ≤ℤ low → each ≡ unsigned_abs high → each * state_count s ≤ 2 ^ 62 → AreGuardedWeights w
 weights_are w low high s each scope same least greatest positive is small =
     let reached : low ≤ℤ high = (let at = least.bound greatest.point greatest.inside in omega (arith, ints, at, greatest.reached)) in
     let sum : sum_to (state_count w.shape) (λ k. value_of w (state_at w.shape k)) ≤ℤ pos (state_count w.shape * each) = sum-most (state_count w.shape) each (λ k. value_of w (state_at w.shape k)) (λ k.

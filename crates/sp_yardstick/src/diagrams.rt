@@ -4,7 +4,7 @@ ghost use Rattle.std.specs.Bool.{OnTrue, OnFalse};
 ghost use Rattle.sp_dd.specs.Floors.{ticks};
 ghost use Rattle.sp_dd.specs.Func.{Everywhere, IsOnPrimed, IsOnUnprimed, IsPointOf, size_of};
 ghost use Rattle.sp_dd.specs.Operations.{summed_out, IsRow};
-ghost use Rattle.sp_yardstick.specs.Guards.{AreWeights, IsFreeOfEach, IsFreeOfOthers};
+ghost use Rattle.sp_yardstick.specs.Guards.{AreGuardedWeights, IsFreeOfEach, IsFreeOfOthers};
 
 use crate::bounds::{are_within, multiplicand};
 use crate::scopes;
@@ -147,7 +147,7 @@ fn sums_to_one(alloc: Global, p: &Diagram, slot: u64) -> Result<bool, NoMemory>
 /// Whether no weight is negative and their sum over all states is at most 2^62. A no may come where the greatest weight times the
 /// number of states is more than that.
 pub fn are_weights(w: &Diagram) -> bool
-    ensures { OnTrue result (AreWeights w.now) }
+    ensures { OnTrue result (AreGuardedWeights w.now) }
 {
     let low = least(w);
     let high = greatest(w);

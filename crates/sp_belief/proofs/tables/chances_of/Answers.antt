@@ -1,6 +1,6 @@
 use Rattle.std.proofs.Common.{◌≡◌, ◌+◌, ◌*◌, ℕ, ap, subst, ◌∙◌, arith, length}
 use Rattle.sp_dd.specs.Func.{Func, Shape, size_of}
-use Rattle.sp_dd.specs.Operations.{restricted}
+use Rattle.sp_dd.specs.Operations.{restriction}
 use Rattle.sp_model.specs.Problem.{no_func, sight_of}
 use Rattle.sp_belief.specs.Tables.{AreChances}
 use Rattle.sp_belief.proofs.Appended.{each_pushed, count_pushed}
@@ -20,8 +20,8 @@ loop-value-preserved c =
     let pushed = c.in_ok-push.ensures.ok in
     record {
       count = count_pushed c.loop-value.value _ _ _ is.count pushed;
-      each = each_pushed (λ (v : ℕ) (f : Func). f ≡ restricted (sight_of p c.args.action c.args.variable) (2 * length p.variables + c.args.variable) v) no_func c.loop-value.value _ _ _ is.count is.each
-          (c.in_ok-chance.ensures ∙ (λ h. restricted (c.sight-sight.ensures h) (2 * c.variable_count.ensures.value h + c.args.variable) c.loop-value.value)) pushed;
+      each = each_pushed (λ (v : ℕ) (f : Func). f ≡ restriction (sight_of p c.args.action c.args.variable) (2 * length p.variables + c.args.variable) v) no_func c.loop-value.value _ _ _ is.count is.each
+          (c.in_ok-chance.ensures ∙ (λ h. restriction (c.sight-sight.ensures h) (2 * c.variable_count.ensures.value h + c.args.variable) c.loop-value.value)) pushed;
     }
 
 pub returns : goal.returns

@@ -1,14 +1,14 @@
 use Rattle.std.proofs.Common.{◌≡◌, ◌*◌, ◌+◌, ◌≤◌, ◌^◌, ap, subst, sym, ◌∙◌, length}
 use Rattle.std.specs.Prelude.{unsigned_abs}
 use Rattle.sp_dd.specs.Func.{Func, Everywhere}
-use Rattle.sp_dd.specs.Operations.{restricted, product_floor}
+use Rattle.sp_dd.specs.Operations.{restriction, product_floor}
 use Rattle.sp_model.specs.Problem.{sight_of}
 use Rattle.sp_belief.specs.Progress.{IsThinned}
 use Rattle.sp_belief.proofs.SeenLemmas.{sight_is, at_value_small, thinned_is}
 use Rattle.sp_belief.proofs.walking.thin_by.Goals.{After-chance}
 use Rattle.sp_belief.proofs.walking.thin_by.Goals as goal
 
-chance-is : (c : After-chance) → c.chance.result.now ≡ restricted (sight_of c.args.model.now c.args.tables.now.action c.args.variable) (2 * length c.args.model.now.variables + c.args.variable) c.args.value
+chance-is : (c : After-chance) → c.chance.result.now ≡ restriction (sight_of c.args.model.now c.args.tables.now.action c.args.variable) (2 * length c.args.model.now.variables + c.args.variable) c.args.value
 chance-is c = c.chance.ensures ∙ (c.requires.tables.chances.each c.args.variable c.requires.variable).each c.args.value c.requires.value
 
 pub mul_floor-requires-clause-scopes : goal.mul_floor-requires-clause-scopes

@@ -6,6 +6,6 @@ use Rattle.sp_checks.proofs.items.observed_in_turn.Given as goal
 
 abbrev pub invariant-loop-next : goal.invariant-loop-next
 invariant-loop-next l = record {
-  value : in_turn (spec.observed l.env l.source) l.listed (drop l.next-index l.list) ≡ spec.observed_in_turn l.env l.source l.initial.listed l.list;
+  value : in_turn (spec.observe_entry l.env l.source) l.listed (drop l.next-index l.list) ≡ spec.observed_in_turn l.env l.source l.initial.listed l.list;
   listed : IsListing l.env l.listed;
 }

@@ -1,5 +1,5 @@
 use Rattle.std.proofs.Common.{Ok, sym, subst}
-use Rattle.sp_checks.specs.Answers.{Answers}
+use Rattle.sp_checks.specs.Answers.{AnswersText}
 use Rattle.sp_checks.proofs.WordLemmas.{has_words}
 use Rattle.sp_checks.proofs.TextLemmas.{text_answers, error_answers}
 use Rattle.sp_checks.proofs.reading.model_of.Goals as goal
@@ -13,4 +13,4 @@ returns-in_err-parts c =
 
 pub returns : goal.returns
 returns c =
-    subst (λ p. Answers c.args.source.now c.args.text.now (Ok p)) (sym c.new.ensures) (text_answers c.args.source.now c.args.text.now c.requires c.tokens_by_place.ensures.cut (Ok c.in_ok-parts.parts) c.in_ok-parts.ensures.value)
+    subst (λ p. AnswersText c.args.source.now c.args.text.now (Ok p)) (sym c.new.ensures) (text_answers c.args.source.now c.args.text.now c.requires c.tokens_by_place.ensures.cut (Ok c.in_ok-parts.parts) c.in_ok-parts.ensures.value)

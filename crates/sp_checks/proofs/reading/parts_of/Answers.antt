@@ -1,6 +1,6 @@
 use Rattle.std.proofs.Common.{length, Err, sym, subst}
 use Rattle.sp_declarations.specs.Steps.{Leaves, in_turn}
-use Rattle.sp_checks.specs.Kept.{IsState}
+use Rattle.sp_checks.specs.Kept.{IsReadingState}
 use Rattle.sp_checks.specs.Sections as spec
 use Rattle.sp_checks.proofs.ReadingLemmas.{has_declared, sections_err, model_kept}
 use Rattle.sp_checks.proofs.StartLemmas.{declared_scope, begun_state}
@@ -11,7 +11,7 @@ begun-requires c = declared_scope c.in_ok-declared.declared.variables c.in_ok-de
 
 pub sections-requires-clause-state : goal.sections-requires-clause-state
 sections-requires-clause-state c =
-    subst IsState (sym c.in_ok-state.ensures) (begun_state c.in_ok-declared.declared (has_declared c.args.source.now c.args.text.now c.in_ok-declared.declared c.requires c.in_ok-declared.ensures))
+    subst IsReadingState (sym c.in_ok-state.ensures) (begun_state c.in_ok-declared.declared (has_declared c.args.source.now c.args.text.now c.in_ok-declared.declared c.requires c.in_ok-declared.ensures))
 
 pub returns-in_err-sections-clause-value : goal.returns-in_err-sections-clause-value
 returns-in_err-sections-clause-value c =

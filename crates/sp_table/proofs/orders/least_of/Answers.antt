@@ -2,7 +2,7 @@ use Rattle.std.proofs.Common.{◌≡◌, ℕ, ◌∙◌, ap, arith, get_or, leng
 use Rattle.std.specs.Prelude.{FitsSigned, pos}
 use Rattle.std.specs.Int.{w128, int_min}
 use Rattle.std.proofs.lemmas.Int.{to_z-of_z}
-use Rattle.sp_table.specs.Cells.{IsLeastOf}
+use Rattle.sp_table.specs.Cells.{IsLeastCell}
 use Rattle.sp_table.proofs.OrderLemmas.{least_more}
 use Rattle.sp_table.proofs.orders.least_of.Goals as goal
 
@@ -21,5 +21,5 @@ loop-cell-preserved c =
 pub returns : goal.returns
 returns c =
     let all : c.loop-cell.cell-index ≡ length c.args.cells.now = omega arith in
-    let P : ℕ → Type 0 = λ n. IsLeastOf c.args.cells.now n (to_z w128 c.loop-cell.least-bits) in
+    let P : ℕ → Type 0 = λ n. IsLeastCell c.args.cells.now n (to_z w128 c.loop-cell.least-bits) in
     subst P all c.loop-cell.invariant

@@ -1,5 +1,5 @@
-use Rattle.sp_table.specs.Cells.{IsLeastOf}
+use Rattle.sp_table.specs.Cells.{IsLeastCell}
 use Rattle.sp_table.proofs.orders.least_of.Given as goal
 
 abbrev pub invariant-loop-cell : goal.invariant-loop-cell
-invariant-loop-cell l = IsLeastOf l.cells l.cell-index l.least
+invariant-loop-cell l = IsLeastCell l.cells l.cell-index l.least

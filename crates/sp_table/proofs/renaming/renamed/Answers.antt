@@ -1,6 +1,6 @@
 use Rattle.std.proofs.Common.{◌≡◌, ◌++◌, ◌∙◌, ap, arith, drop, length, sym, take}
 use Rattle.sp_dd.specs.Func.{Shape}
-use Rattle.sp_dd.specs.Operations.{exchanged}
+use Rattle.sp_dd.specs.Operations.{exchange_of_slots}
 use Rattle.sp_table.proofs.PlaceLemmas.{Mentions-length}
 use Rattle.sp_table.proofs.FrameLemmas.{Means, are_widths, scope_is}
 use Rattle.sp_table.proofs.ExchangeLemmas.{dropped, exchanged_pairs, renamed_is, frame_without, length-without}
@@ -25,7 +25,7 @@ exchange_pairs-requires c =
     record { paired = omega (arith, long, length-without c.args.first c.args.f.now.shape.variables c.in_ok-widths.widths.items, Mentions-length _ _ c.in_ok-widths.ensures.mentions, c.in_ok-widths.ensures.scope.paired, variables) }
 
 -- what the result means
-is : (c : goal.After-result-1) → Means c.f.inside.scope (take c.in_ok-widths.widths.len (c.exchange_pairs.new.widths ++ drop (length c.exchange_pairs.new.widths) (take c.in_ok-widths.widths.len (c.drop_each.new.widths ++ drop (length c.drop_each.new.widths) c.in_ok-widths.widths.items)))) c.in_ok-cells.cells.items (exchanged c.args.f.now)
+is : (c : goal.After-result-1) → Means c.f.inside.scope (take c.in_ok-widths.widths.len (c.exchange_pairs.new.widths ++ drop (length c.exchange_pairs.new.widths) (take c.in_ok-widths.widths.len (c.drop_each.new.widths ++ drop (length c.drop_each.new.widths) c.in_ok-widths.widths.items)))) c.in_ok-cells.cells.items (exchange_of_slots c.args.f.now)
 is c =
     let variables = c.variables-variables.ensures ∙ ap (λ (s : Shape). s.variables) c.scope.ensures.value in
     let one = dropped c.in_ok-widths.widths.items _ _ c.in_ok-widths.widths.len c.args.first _ _ c.in_ok-widths.widths.ok.0 c.as_mut_slice.ensures.value c.drop_each.ensures variables in

@@ -1,7 +1,7 @@
 use Rattle.std.proofs.Common.{ℕ, [], ◌∷◌, Vec, Global}
 use Rattle.std.proofs.lemmas.Result.{IfOk-weaker}
 use Rattle.sp_words.specs.declared.job.Job.TheVariants.{Check}
-use Rattle.sp_tool.specs.Table.{IsText}
+use Rattle.sp_tool.specs.Table.{IsTextFor}
 use Rattle.sp_tool.specs.declared.fault.Fault.TheVariants.{NoMemory}
 use Rattle.sp_tool.proofs.TableLemmas.{on_kept}
 use Rattle.sp_tool.proofs.jobs.check_job.Goals as goal
@@ -12,5 +12,5 @@ returns-in-Err-clause-fault g c = c.in-Err.ensures.fault
 pub returns-in-Ok-clause-text : goal.returns-in-Ok-clause-text
 returns-in-Ok-clause-text g c =
     let m = c.in-Ok.ensures.model in
-    on_kept (λ (t : Vec ℕ Global). IsText (g.S.Store.folder c.args.store.now) (Check c.args.file.now) t.items) c.check_text.result c.or_no_memory.result NoMemory c.or_no_memory.ensures
+    on_kept (λ (t : Vec ℕ Global). IsTextFor (g.S.Store.folder c.args.store.now) (Check c.args.file.now) t.items) c.check_text.result c.or_no_memory.result NoMemory c.or_no_memory.ensures
     (IfOk-weaker c.check_text.result _ _ (λ t is. (m.0 ∷ [], (m.1, tt), (m.2, (c.in-Ok.model, m.3, is)))) c.check_text.ensures)

@@ -3,7 +3,7 @@ use Rattle.std.specs.Prelude.{All}
 use Rattle.std.specs.Arc.{arc_value}
 use Rattle.sp_theory.specs.Points.{count_of}
 use Rattle.sp_model.specs.Problem.{sizes_of}
-use Rattle.sp_script.specs.Laws.{IsWithin}
+use Rattle.sp_script.specs.Laws.{IsObservationWithin}
 use Rattle.sp_model.specs.declared.parts.Parts.{Parts}
 use Rattle.sp_value.specs.Tasks.{TaskParts}
 use Rattle.sp_script.specs.Script.{IsScript}
@@ -31,7 +31,7 @@ returns-clause-text g c =
 
 pub act_text-requires-clause-commands : goal.act_text-requires-clause-commands
 act_text-requires-clause-commands g c =
-    subst (λ (m : Parts). All (IsWithin (count_of (sizes_of m.sights))) c.in-Ok-file_script.commands) (c.model.ensures.value ∙ ap (λ (t : TaskParts). t.model) c.deref.ensures) c.in-Ok-file_script.ensures.within
+    subst (λ (m : Parts). All (IsObservationWithin (count_of (sizes_of m.sights))) c.in-Ok-file_script.commands) (c.model.ensures.value ∙ ap (λ (t : TaskParts). t.model) c.deref.ensures) c.in-Ok-file_script.ensures.within
 
 pub returns-in_err-text-clause-later : goal.returns-in_err-text-clause-later
 returns-in_err-text-clause-later g c = later_still (g.S.Store.folder c.args.store.now) (g.S.Store.folder c.file_plan.new.store) (g.S.Store.folder c.file_script.new.store) c.file_plan.ensures.later c.file_script.ensures.later

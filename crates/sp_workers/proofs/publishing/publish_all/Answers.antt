@@ -1,11 +1,11 @@
 use Rattle.std.proofs.Common.{◌≡◌, ◌+◌, subst, arith, length}
-use Rattle.sp_publish.specs.Published.{Published}
+use Rattle.sp_publish.specs.Published.{PublishedList}
 use Rattle.sp_publish.proofs.PublishedLemmas.{goes_on_self, goes_on_trans}
 use Rattle.sp_workers.proofs.Beginnings.{begins_whole}
 use Rattle.sp_workers.proofs.publishing.publish_all.Goals as goal
 
 pub loop-number-init : goal.loop-number-init
-loop-number-init g c = record { beginning = c.requires; on = goes_on_self c.args.publisher.now; count = subst (λ (t : Published). length t.editions ≡ c.number-published.result + 1) c.newest.ensures c.number-published.ensures.count }
+loop-number-init g c = record { beginning = c.requires; on = goes_on_self c.args.publisher.now; count = subst (λ (t : PublishedList). length t.editions ≡ c.number-published.result + 1) c.newest.ensures c.number-published.ensures.count }
 
 pub loop-number-preserved : goal.loop-number-preserved
 loop-number-preserved g c = record {

@@ -4,7 +4,7 @@ use Rattle.std.proofs.lemmas.List.{length-map, length-take-le, take_all}
 use Rattle.sp_theory.specs.Book as theory
 use Rattle.sp_value.specs.Tasks.{TaskParts, task_of}
 use Rattle.sp_value.specs.Events.{event_of, events_of}
-use Rattle.sp_faults.specs.RunFaults.{AreSampled}
+use Rattle.sp_faults.specs.RunFaults.{AreSettlesSampled}
 use Rattle.sp_audit.specs.declared.clause.Clause.{Clause}
 use Rattle.sp_audit.specs.States.{contents, IsStateAfter}
 use Rattle.sp_audit.specs.Judging.{IsEventJudged}
@@ -24,7 +24,7 @@ judge-requires-clause-sampled c =
     let event = c.index-events-k.result in
     let at = found_at events k event c.loop-k-test.true c.index-events-k.is in
     let rest = rest_from event_of events k event at in
-    subst (λ (u : TaskParts). AreSampled (task_of u) (event_of event ∷ [])) (sym c.loop-k.invariant.task)
+    subst (λ (u : TaskParts). AreSettlesSampled (task_of u) (event_of event ∷ [])) (sym c.loop-k.invariant.task)
     (sampled_at (task_of t) (events_of events) k (event_of event) (drop (suc k) (events_of events)) c.requires rest.0)
 
 pub judge-requires-clause-few : goal.judge-requires-clause-few

@@ -15,7 +15,7 @@ use Rattle.sp_value.specs.Tasks.{TaskParts, IsTask, task_of}
 use Rattle.sp_value.specs.Editions.{EditionParts}
 use Rattle.sp_ledger.specs.Accounts.{AreWorths}
 use Rattle.sp_ledger.specs.Opening.{first_edition, first_member}
-use Rattle.sp_audit.specs.States.{Contents}
+use Rattle.sp_audit.specs.States.{ReplayContents}
 use Rattle.sp_audit.proofs.Following.{first_replay}
 use Rattle.sp_audit.proofs.states.RunState.opened.Goals as goal
 
@@ -39,7 +39,7 @@ returns-clause-replay c =
     let final = with_items_is c.in_ok-latest_values.latest_values c.weigh.new.worths (search (rules, places)) in
     let long : length c.weigh.new.worths ≡ t.options.beliefs = c.weigh.auto.worths ∙ ap (λ (xs : List ℤ). length xs) (c.as_mut_slice.ensures.value ∙ room) ∙ length-replicate c.options.result.now.beliefs (pos 0) ∙ count in
     first_replay t is scope _
-    (λ i. let r : Contents = record {
+    (λ i. let r : ReplayContents = record {
       task = own i;
       editions = (ap (λ (xs : List (Arc Edition Global)). map arc_value xs) editions ∙ ap (λ (e : EditionParts). e ∷ []) edition) i;
       records = 1;

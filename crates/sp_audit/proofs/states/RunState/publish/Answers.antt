@@ -6,7 +6,7 @@ use Rattle.sp_value.specs.declared.editions.Member.{Member}
 use Rattle.sp_value.specs.declared.editions.Edition.{Edition}
 use Rattle.sp_value.specs.Tasks.{TaskParts}
 use Rattle.sp_value.specs.Editions.{EditionParts, IsEdition}
-use Rattle.sp_audit.specs.States.{Contents, contents, IsStateAfter}
+use Rattle.sp_audit.specs.States.{ReplayContents, contents, IsStateAfter}
 use Rattle.sp_audit.proofs.Following.{published_follows, grown_is_edition}
 use Rattle.sp_audit.proofs.states.RunState.publish.Goals as goal
 
@@ -33,7 +33,7 @@ returns c =
     let flags : vec_len s.improved ≡ length s.improved.items = search (rules, places) in
     let improved = c.fill.ensures.items (λ y e. e) ∙ ap (λ (n : ℕ). replicate n false) flags in
     published_follows own c.requires.going c.requires.up _
-    (λ i. let r : Contents = record {
+    (λ i. let r : ReplayContents = record {
       task = own.task;
       editions = editions i;
       records = own.records;

@@ -4,7 +4,7 @@ use Rattle.std.specs.declared.sync.Arc.{Arc}
 use Rattle.std.proofs.lemmas.List.{places, length-map, map-append}
 use Rattle.sp_value.specs.declared.editions.Edition.{Edition}
 use Rattle.sp_value.specs.Editions.{EditionParts, IsEdition}
-use Rattle.sp_audit.specs.States.{Contents, contents}
+use Rattle.sp_audit.specs.States.{ReplayContents, contents}
 use Rattle.sp_audit.proofs.states.RunState.put.Goals as goal
 
 pub shared_edition-requires : goal.shared_edition-requires
@@ -24,4 +24,4 @@ returns c =
     let edition = c.in_ok-edition.ensures ∙ (λ i. let r : EditionParts = record { number = number i; task = c.task.ensures i; members = c.from_vec.ensures i } in r) in
     let editions = ap (λ (xs : List (Arc Edition Global)). map arc_value xs) (c.push_reserved.ensures.items ∙ ap (λ (xs : List (Arc Edition Global)). xs ++ c.in_ok-edition.edition ∷ []) c.reserve.ensures.items)
     ∙ map-append arc_value s.editions.items (c.in_ok-edition.edition ∷ []) ∙ ap (λ (e : EditionParts). own.editions ++ e ∷ []) edition in
-    (λ i. let r : Contents = record own { editions = editions i } in r)
+    (λ i. let r : ReplayContents = record own { editions = editions i } in r)

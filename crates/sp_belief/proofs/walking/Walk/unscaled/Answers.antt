@@ -1,6 +1,6 @@
 use Rattle.std.proofs.Common.{ap, subst, sym, ◌∙◌, List, length, Bool}
 use Rattle.std.specs.Bool.{OnTrue}
-use Rattle.sp_dd.specs.Operations.{exchanged}
+use Rattle.sp_dd.specs.Operations.{exchange_of_slots}
 use Rattle.sp_belief.specs.declared.walking.Step.{Step}
 use Rattle.sp_belief.specs.Updates.{unscaled_after}
 use Rattle.sp_belief.specs.Paths.{func_after, LeadsTo, IsUnscaled}
@@ -33,6 +33,6 @@ returns-clause-some c =
     subst (IsUnscaled p x.weights.now x.action c.args.observation) (sym c.in_ok-raw.ensures) (record {
       has = has;
       small = seen_small p known x.action x.known x.weights.now c.args.observation c.requires.observation c.end.result.now is;
-      few = total_low p known (exchanged c.end.result.now) (unscaled_after p x.weights.now x.action c.args.observation) has
+      few = total_low p known (exchange_of_slots c.end.result.now) (unscaled_after p x.weights.now x.action c.args.observation) has
           (next_few p x.weights.now x.action c.args.observation known x.scope c.func.ensures.known x.known c.requires.observation);
     })

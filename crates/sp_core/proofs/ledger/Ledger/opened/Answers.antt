@@ -15,7 +15,7 @@ use Rattle.sp_value.specs.Tasks.{TaskParts, IsTask, task_of}
 use Rattle.sp_value.specs.Events.{events_of}
 use Rattle.sp_value.specs.Editions.{EditionParts}
 use Rattle.sp_ledger.specs.Accounts.{AreWorths}
-use Rattle.sp_core.specs.Ledgers.{Contents}
+use Rattle.sp_core.specs.Ledgers.{LedgerContents}
 use Rattle.sp_ledger.specs.Opening.{first_edition, first_member}
 use Rattle.sp_core.proofs.Leaf.{first_ledger}
 use Rattle.sp_core.proofs.ledger.Ledger.opened.Goals as goal
@@ -41,7 +41,7 @@ returns-clause-ledger c =
     let final = with_items_is c.in_ok-latest_values.latest_values c.weigh.new.worths (search (rules, places)) in
     let long : length c.weigh.new.worths ≡ t.options.beliefs = c.weigh.auto.worths ∙ ap (λ (xs : List ℤ). length xs) (c.as_mut_slice.ensures.value ∙ room) ∙ length-replicate c.options.result.now.beliefs (pos 0) ∙ count in
     first_ledger t is scope _
-    (λ i. let r : Contents = record {
+    (λ i. let r : LedgerContents = record {
       task = own i;
       events = events_of (c.new-2.ensures.items i);
       editions = (ap (λ (xs : List (Arc Edition Global)). map arc_value xs) editions ∙ ap (λ (e : EditionParts). e ∷ []) edition) i;

@@ -9,7 +9,7 @@ use Rattle.sp_value.specs.Tasks.{TaskParts}
 use Rattle.sp_value.specs.Editions.{IsMemberOf}
 use Rattle.sp_ledger.specs.declared.flags.Choice.TheVariants.{Neither, New, Old}
 use Rattle.sp_core.specs.Books.{state_of}
-use Rattle.sp_core.specs.Ledgers.{Contents, contents, account_in, parts_in, IsLedger}
+use Rattle.sp_core.specs.Ledgers.{LedgerContents, contents, account_in, parts_in, IsLedger}
 use Rattle.sp_core.specs.Settling.{IsOurs}
 use Rattle.sp_core.specs.Plans.{choice_for, new_member, IsEntry, IsGreatestAtBelief}
 use Rattle.sp_ledger.proofs.Ours.{own_belief}
@@ -24,8 +24,8 @@ returns-in-Neither-clause-plan c =
     let same = c.make_room.ensures.same in
     let d = c.args.candidate.now in
     let led : IsLedger now = subst IsLedger (sym same) c.requires.ledger in
-    let ours = subst (λ (x : Contents). IsOurs (parts_in x) d.base) (sym same) c.requires.ours in
-    let going : now.done ≡ false = ap (λ (x : Contents). x.done) same ∙ c.requires.going in
+    let ours = subst (λ (x : LedgerContents). IsOurs (parts_in x) d.base) (sym same) c.requires.ours in
+    let going : now.done ≡ false = ap (λ (x : LedgerContents). x.done) same ∙ c.requires.going in
     let is = c.vector.ensures.known in
     let fits_latest : FitsSigned w128 c.index-2.result.now = search rules in
     let fits_grown : FitsSigned w128 c.index-3.result.now = search rules in
@@ -40,8 +40,8 @@ due-requires-clause-member c =
     let same = c.make_room.ensures.same in
     let d = c.args.candidate.now in
     let led : IsLedger now = subst IsLedger (sym same) c.requires.ledger in
-    let ours = subst (λ (x : Contents). IsOurs (parts_in x) d.base) (sym same) c.requires.ours in
-    let going : now.done ≡ false = ap (λ (x : Contents). x.done) same ∙ c.requires.going in
+    let ours = subst (λ (x : LedgerContents). IsOurs (parts_in x) d.base) (sym same) c.requires.ours in
+    let going : now.done ≡ false = ap (λ (x : LedgerContents). x.done) same ∙ c.requires.going in
     let is = c.vector.ensures.known in
     let it : Member = record { id = now.records; action = c.action.result; vector = c.vector-in-New.result.now } in
     let it_is : new_member now d ≡ it = (λ i. let r : Member = record { id = now.records; action = sym c.action.ensures i; vector = sym c.vector-in-New.ensures.value i } in r) in
@@ -53,8 +53,8 @@ due-requires-clause-different c =
     let same = c.make_room.ensures.same in
     let d = c.args.candidate.now in
     let led : IsLedger now = subst IsLedger (sym same) c.requires.ledger in
-    let ours = subst (λ (x : Contents). IsOurs (parts_in x) d.base) (sym same) c.requires.ours in
-    let going : now.done ≡ false = ap (λ (x : Contents). x.done) same ∙ c.requires.going in
+    let ours = subst (λ (x : LedgerContents). IsOurs (parts_in x) d.base) (sym same) c.requires.ours in
+    let going : now.done ≡ false = ap (λ (x : LedgerContents). x.done) same ∙ c.requires.going in
     let is = c.vector.ensures.known in
     let it : Member = record { id = now.records; action = c.action.result; vector = c.vector-in-New.result.now } in
     let it_is : new_member now d ≡ it = (λ i. let r : Member = record { id = now.records; action = sym c.action.ensures i; vector = sym c.vector-in-New.ensures.value i } in r) in
@@ -66,8 +66,8 @@ greatest_at-requires c =
     let same = c.make_room.ensures.same in
     let d = c.args.candidate.now in
     let led : IsLedger now = subst IsLedger (sym same) c.requires.ledger in
-    let ours = subst (λ (x : Contents). IsOurs (parts_in x) d.base) (sym same) c.requires.ours in
-    let going : now.done ≡ false = ap (λ (x : Contents). x.done) same ∙ c.requires.going in
+    let ours = subst (λ (x : LedgerContents). IsOurs (parts_in x) d.base) (sym same) c.requires.ours in
+    let going : now.done ≡ false = ap (λ (x : LedgerContents). x.done) same ∙ c.requires.going in
     let is = c.vector.ensures.known in
     let items = c.make_room.new.self.editions in
     let e = c.deref-in-Old.result.now in
@@ -82,8 +82,8 @@ due-requires-in-Old-clause-member c =
     let same = c.make_room.ensures.same in
     let d = c.args.candidate.now in
     let led : IsLedger now = subst IsLedger (sym same) c.requires.ledger in
-    let ours = subst (λ (x : Contents). IsOurs (parts_in x) d.base) (sym same) c.requires.ours in
-    let going : now.done ≡ false = ap (λ (x : Contents). x.done) same ∙ c.requires.going in
+    let ours = subst (λ (x : LedgerContents). IsOurs (parts_in x) d.base) (sym same) c.requires.ours in
+    let going : now.done ≡ false = ap (λ (x : LedgerContents). x.done) same ∙ c.requires.going in
     let is = c.vector.ensures.known in
     let items = c.make_room.new.self.editions in
     let e = c.deref-in-Old.result.now in
@@ -97,8 +97,8 @@ due-requires-in-Old-clause-different c =
     let same = c.make_room.ensures.same in
     let d = c.args.candidate.now in
     let led : IsLedger now = subst IsLedger (sym same) c.requires.ledger in
-    let ours = subst (λ (x : Contents). IsOurs (parts_in x) d.base) (sym same) c.requires.ours in
-    let going : now.done ≡ false = ap (λ (x : Contents). x.done) same ∙ c.requires.going in
+    let ours = subst (λ (x : LedgerContents). IsOurs (parts_in x) d.base) (sym same) c.requires.ours in
+    let going : now.done ≡ false = ap (λ (x : LedgerContents). x.done) same ∙ c.requires.going in
     let is = c.vector.ensures.known in
     let items = c.make_room.new.self.editions in
     let e = c.deref-in-Old.result.now in
@@ -118,8 +118,8 @@ returns-in_ok-next-in-New-clause-plan c =
     let same = c.make_room.ensures.same in
     let d = c.args.candidate.now in
     let led : IsLedger now = subst IsLedger (sym same) c.requires.ledger in
-    let ours = subst (λ (x : Contents). IsOurs (parts_in x) d.base) (sym same) c.requires.ours in
-    let going : now.done ≡ false = ap (λ (x : Contents). x.done) same ∙ c.requires.going in
+    let ours = subst (λ (x : LedgerContents). IsOurs (parts_in x) d.base) (sym same) c.requires.ours in
+    let going : now.done ≡ false = ap (λ (x : LedgerContents). x.done) same ∙ c.requires.going in
     let is = c.vector.ensures.known in
     let fits_latest : FitsSigned w128 c.index-2.result.now = search rules in
     let fits_grown : FitsSigned w128 c.index-3.result.now = search rules in
@@ -127,8 +127,8 @@ returns-in_ok-next-in-New-clause-plan c =
     let chosen : choice_for now d ≡ New = chosen_is now.task (state_of (parts_in now)) (account_in now) led.running.replayed.account d.belief (own_belief now.task now.editions led.numbered d is ours) d.vector c.belief-belief.result c.belief-belief.ensures _ _ _ _ _ _ _ c.index.ensures c.index-2.ensures c.index-3.ensures
     (to_z-of_z w128 _ fits_latest) (to_z-of_z w128 _ fits_grown) (to_z-of_z w128 _ fits_worth) _ _ _ (c.deref.ensures ∙ c.task.ensures) c.belief.ensures c.vector.ensures.value c.in_ok-worth.ensures _ New c.choose-choice.ensures c.in-New.is in
     let then = contents c.due.new.self in
-    let it_is : (record { id = now.records; action = c.action.result; vector = c.vector-in-New.result.now }) ≡ new_member then d = (λ i. let r : Member = record { id = sym (ap (λ (x : Contents). x.records) c.due.ensures.same) i; action = c.action.ensures i; vector = c.vector-in-New.ensures.value i } in r) in
-    (ap (λ (x : Contents). choice_for x d) c.due.ensures.same ∙ chosen, subst (λ (x : Member). IsEntry then x (option_map arc_value c.in_ok-next-in-New.next)) it_is c.in_ok-next-in-New.ensures.entry)
+    let it_is : (record { id = now.records; action = c.action.result; vector = c.vector-in-New.result.now }) ≡ new_member then d = (λ i. let r : Member = record { id = sym (ap (λ (x : LedgerContents). x.records) c.due.ensures.same) i; action = c.action.ensures i; vector = c.vector-in-New.ensures.value i } in r) in
+    (ap (λ (x : LedgerContents). choice_for x d) c.due.ensures.same ∙ chosen, subst (λ (x : Member). IsEntry then x (option_map arc_value c.in_ok-next-in-New.next)) it_is c.in_ok-next-in-New.ensures.entry)
 
 pub returns-in_ok-next-in-Old-clause-plan : goal.returns-in_ok-next-in-Old-clause-plan
 returns-in_ok-next-in-Old-clause-plan c =
@@ -136,8 +136,8 @@ returns-in_ok-next-in-Old-clause-plan c =
     let same = c.make_room.ensures.same in
     let d = c.args.candidate.now in
     let led : IsLedger now = subst IsLedger (sym same) c.requires.ledger in
-    let ours = subst (λ (x : Contents). IsOurs (parts_in x) d.base) (sym same) c.requires.ours in
-    let going : now.done ≡ false = ap (λ (x : Contents). x.done) same ∙ c.requires.going in
+    let ours = subst (λ (x : LedgerContents). IsOurs (parts_in x) d.base) (sym same) c.requires.ours in
+    let going : now.done ≡ false = ap (λ (x : LedgerContents). x.done) same ∙ c.requires.going in
     let is = c.vector.ensures.known in
     let items = c.make_room.new.self.editions in
     let e = c.deref-in-Old.result.now in
@@ -149,7 +149,7 @@ returns-in_ok-next-in-Old-clause-plan c =
     let chosen : choice_for now d ≡ Old = chosen_is now.task (state_of (parts_in now)) (account_in now) led.running.replayed.account d.belief (own_belief now.task now.editions led.numbered d is ours) d.vector c.belief-belief.result c.belief-belief.ensures _ _ _ _ _ _ _ c.index.ensures c.index-2.ensures c.index-3.ensures
     (to_z-of_z w128 _ fits_latest) (to_z-of_z w128 _ fits_grown) (to_z-of_z w128 _ fits_worth) _ _ _ (c.deref.ensures ∙ c.task.ensures) c.belief.ensures c.vector.ensures.value c.in_ok-worth.ensures _ Old c.choose-choice.ensures c.in-Old.is in
     let greatest = greatest_is now led e last d.belief c.belief-in-Old.result c.in_ok-member-in-Old.member c.belief-in-Old.ensures c.in_ok-member-in-Old.ensures.greatest in (
-      ap (λ (x : Contents). choice_for x d) c.due-in-Old.ensures.same ∙ chosen,
-      subst (λ (x : Contents). IsGreatestAtBelief x d.belief c.in_ok-member-in-Old.member) (sym c.due-in-Old.ensures.same) greatest,
+      ap (λ (x : LedgerContents). choice_for x d) c.due-in-Old.ensures.same ∙ chosen,
+      subst (λ (x : LedgerContents). IsGreatestAtBelief x d.belief c.in_ok-member-in-Old.member) (sym c.due-in-Old.ensures.same) greatest,
       c.in_ok-next-in-Old.ensures.entry,
     )
