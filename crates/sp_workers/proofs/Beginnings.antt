@@ -80,9 +80,6 @@ begins_same p q b same begins = subst (λ (t : PublishedList). IsBeginning t b) 
 pub on_same : (p q : PublishedList) → q ≡ p → ListGoesOn p q
 on_same p q same = subst (λ (t : PublishedList). ListGoesOn p t) (sym same) (goes_on_self p)
 
-pub on_after : (p q r : PublishedList) → q ≡ p → ListGoesOn q r → ListGoesOn p r
-on_after p q r same on = subst (λ (t : PublishedList). ListGoesOn t r) same on
-
 -- a fact holds at an error too
 pub on_err : {T E Q : Type 0} (r : Result T E) → Q → OnErr r Q
 on_err (Ok x) q = tt

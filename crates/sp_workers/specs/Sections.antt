@@ -1,6 +1,6 @@
 -- What is done to the book while the lock is held: one settle with what is due then, one prune, or no event.
 use Rattle.std.specs.Prelude.{◌≡◌, ◌⊎◌, ℕ, ◌-◌, ◌<◌, ◌≤◌, List, length, slice_get, Some, true, false}
-use Rattle.std.specs.Arc.{arc_value}
+use Rattle.logbook.specs.Pages.{Book}
 use Rattle.sp_value.specs.Tasks.{TaskParts}
 use Rattle.sp_value.specs.Editions.{EditionParts}
 use Rattle.sp_value.specs.Candidates.{CandidateParts, IsCandidate}
@@ -10,6 +10,7 @@ use Rattle.sp_core.specs.declared.answers.Pruned.TheVariants.{Nothing}
 use Rattle.sp_core.specs.Books.{BookParts, state_of}
 use Rattle.sp_core.specs.Settling.{IsOurs, IsSettled}
 use Rattle.sp_core.specs.Pruning.{IsPruned}
+use Rattle.sp_publish.specs.Published.{PublishedList, newest_in}
 use Rattle.sp_workers.specs.declared.sections.Look.{Look}
 use Rattle.sp_workers.specs.declared.sections.Look.TheVariants.{Over, Examined, Newer}
 
@@ -24,10 +25,10 @@ abbrev pub IsLatest : BookParts → EditionParts → Type 0
 IsLatest b e = slice_get b.editions (length b.editions - 1) ≡ Some e
 
 -- ---- taking work
--- a sampled belief of the task, and an edition of it
-pub record IsWorkOf (t : TaskParts) (belief : ℕ) (base : EditionParts) : Type 0 where
+-- a sampled belief of the task, and what was seen of a list whose newest edition is of it
+pub record IsWorkOf (t : TaskParts) (belief : ℕ) (seen : PublishedList) : Type 0 where
   pub below : belief < t.options.beliefs
-  pub task : base.task ≡ t
+  pub task : (base : EditionParts) → newest_in seen ≡ Some base → base.task ≡ t
 
 -- ---- settling
 -- a backup at the belief on the latest edition is settled
@@ -57,9 +58,9 @@ MayPrune b e pairs d = (d ≡ b) ⊎ ((answer : Pruned) × IsPrunedFor b e pairs
 
 -- ---- looking
 -- whether there is something to prune: not where the run is over or no worker is at work; not where the latest
--- edition is one of those up to the number that was examined; else that edition
-abbrev pub IsLook : BookParts → ℕ → ℕ → Look → Type 0
-IsLook b working examined Over = ((state_of b).done ≡ true) ⊎ (working ≡ 0)
-IsLook b working examined Examined = ((state_of b).done ≡ false) × (0 < working) × (e : EditionParts) × IsLatest b e × (e.number ≤ examined)
-IsLook b working examined (Newer base) =
-    ((state_of b).done ≡ false) × (0 < working) × IsLatest b (arc_value base) × (examined < (arc_value base).number)
+-- edition is one of those up to the number that was examined; else that edition, as the newest one of the list
+abbrev pub IsLook : Book → BookParts → ℕ → ℕ → Look → Type 0
+IsLook list b working examined Over = ((state_of b).done ≡ true) ⊎ (working ≡ 0)
+IsLook list b working examined Examined = ((state_of b).done ≡ false) × (0 < working) × (length b.editions - 1 ≤ examined)
+IsLook list b working examined (Newer seen) =
+    ((state_of b).done ≡ false) × (0 < working) × (examined < length b.editions - 1) × (seen.list ≡ list) × (seen.editions ≡ b.editions)

@@ -1,18 +1,18 @@
 //! What lies under the lock.
 
-ghost use Rattle.std.specs.Prelude.{◌≡◌, ◌-◌, IfOk, IfSome, MatchOption, OnErr, OnOk, true};
+ghost use Rattle.std.specs.Prelude.{◌≡◌, ◌-◌, IfOk, IfSome, MatchOption, OnErr, OnOk, Some, true};
 ghost use Rattle.std.specs.Arc.{arc_value};
 ghost use Rattle.sp_core.specs.Books.{state_of};
 ghost use Rattle.sp_theory.specs.OneThread.{picked};
 ghost use Rattle.sp_value.specs.Tasks.{task_of};
 ghost use Rattle.sp_core.specs.Marks.{marks_of};
 ghost use Rattle.sp_core.specs.Pruning.{AreDominatedIn};
-ghost use Rattle.sp_publish.specs.Published.{ListGoesOn};
+ghost use Rattle.sp_publish.specs.Published.{ListGoesOn, newest_in};
 ghost use Rattle.sp_workers.specs.Shared.{AreShared, IsBeginning};
-ghost use Rattle.sp_workers.specs.Sections.{HasSameEvents, IsLatest, IsLook, IsPrunedFor, IsSettledFor, IsWorkOf, MayPrune, MaySettle};
+ghost use Rattle.sp_workers.specs.Sections.{HasSameEvents, IsLook, IsPrunedFor, IsSettledFor, IsWorkOf, MayPrune, MaySettle};
 
 use crate::publishing::publish_all;
-use crate::sections::{Look, Work, look_at, prune_on, settle_on, take_work};
+use crate::sections::{Look, Work, is_over, prune_on, settle_on, take_work};
 use sp_backup::Projections;
 use sp_core::{Book, Pruned, Settled};
 use sp_dd::{NoMemory, Pairs};
@@ -100,34 +100,54 @@ impl<N: ListName, R: Wait + Drop> Locked<N, R> {
         (book, held.into_publisher())
     }
 
-    /// Takes the belief to back up next, and the latest edition; nothing where the run is over.
+    /// Takes the belief to back up next, and a notice of the latest edition; nothing where the run is over. Publishes each edition of
+    /// the book that isn't published yet.
     pub fn take(&mut self, word: u64) -> Result<Option<Work>, NoMemory>
-        ensures work { IfOk result (λ taken. MatchOption taken ((state_of self.old.book).done ≡ true) (λ w. IsWorkOf N.first.task w.belief (arc_value w.base))) }
-        ensures latest { IfOk result (λ taken. IfSome taken (λ w. IsLatest self.old.book (arc_value w.base))) }
+        ensures work { IfOk result (λ taken. MatchOption taken ((state_of self.old.book).done ≡ true) (λ w. IsWorkOf N.first.task w.belief w.seen)) }
+        ensures latest { IfOk result (λ taken. IfSome taken (λ w. w.seen.editions ≡ self.old.book.editions)) }
+        ensures list { IfOk result (λ taken. IfSome taken (λ w. w.seen.list ≡ N.list)) }
         ensures picked { IfOk result (λ taken. IfSome taken (λ w. w.belief ≡ picked (task_of self.old.book.task) (state_of self.old.book) (marks_of self.old.book.taken) word)) }
         ensures unchanged { OnErr result (self.new.book ≡ self.old.book) }
+        ensures same { HasSameEvents self.old.book self.new.book }
+        ensures on { ListGoesOn self.old.list self.new.list }
+        ensures working { self.new.working ≡ self.old.working }
+    {
+        let seen = self.latest()?;
+        Ok(self.take_alone(seen, word))
+    }
+
+    fn take_alone(&mut self, seen: Notice, word: u64) -> Option<Work>
+        requires { seen.editions ≡ self.old.book.editions }
+        ensures work { MatchOption result ((state_of self.old.book).done ≡ true) (λ w. IsWorkOf N.first.task w.belief w.seen) }
+        ensures seen { IfSome result (λ w. w.seen ≡ seen) }
+        ensures picked { IfSome result (λ w. w.belief ≡ picked (task_of self.old.book.task) (state_of self.old.book) (marks_of self.old.book.taken) word) }
         ensures same { HasSameEvents self.old.book self.new.book }
         ensures list { self.new.list ≡ self.old.list }
         ensures working { self.new.working ≡ self.old.working }
     {
-        take_work(&mut self.book, word)
+        take_work(&mut self.book, seen, word)
     }
 
-    /// Settles a candidate, and publishes each edition of the book that isn't published yet.
+    /// Settles a candidate that was made on the newest edition seen, and publishes each edition of the book that isn't published yet,
+    /// before and after.
     pub fn settle(
         &mut self,
         alloc: Global,
+        seen: &Notice,
         candidate: Candidate,
         kept: &mut Projections,
     ) -> Result<Settled, NoMemory>
-        requires { candidate.base.task ≡ N.first.task }
+        requires list { seen.now.list ≡ N.list }
+        requires base { newest_in seen.now ≡ Some candidate.base }
+        requires task { candidate.base.task ≡ N.first.task }
         ensures ok { IfOk result (λ answer. IsSettledFor self.old.book candidate answer self.new.book) }
         ensures published { OnOk result (self.new.list.editions ≡ self.new.book.editions) }
         ensures event { MaySettle self.old.book candidate self.new.book }
         ensures on { ListGoesOn self.old.list self.new.list }
         ensures working { self.new.working ≡ self.old.working }
     {
-        let answer = self.settle_alone(alloc, candidate, kept)?;
+        self.publish()?;
+        let answer = self.settle_alone(alloc, seen, candidate, kept)?;
         self.publish()?;
         Ok(answer)
     }
@@ -135,40 +155,74 @@ impl<N: ListName, R: Wait + Drop> Locked<N, R> {
     fn settle_alone(
         &mut self,
         alloc: Global,
+        seen: &Notice,
         candidate: Candidate,
         kept: &mut Projections,
     ) -> Result<Settled, NoMemory>
-        requires { candidate.base.task ≡ N.first.task }
+        requires whole { self.old.list.editions ≡ self.old.book.editions }
+        requires list { seen.now.list ≡ N.list }
+        requires base { newest_in seen.now ≡ Some candidate.base }
+        requires task { candidate.base.task ≡ N.first.task }
         ensures ok { IfOk result (λ answer. IsSettledFor self.old.book candidate answer self.new.book) }
         ensures err { OnErr result (self.new.book ≡ self.old.book) }
         ensures list { self.new.list ≡ self.old.list }
         ensures working { self.new.working ≡ self.old.working }
     {
-        settle_on(alloc, &mut self.book, candidate, kept)
+        settle_on(
+            alloc,
+            &mut self.book,
+            self.held.publisher.newest(),
+            seen,
+            candidate,
+            kept,
+        )
     }
 
-    /// Prunes pairs of members of an edition, and publishes each edition of the book that isn't published yet.
-    pub fn prune(&mut self, base: &Arc<Edition>, pairs: &Pairs) -> Result<Pruned, NoMemory>
-        requires { AreDominatedIn (arc_value base.now) pairs.now }
+    /// Prunes pairs of members of the newest edition seen, and publishes each edition of the book that isn't published yet, before
+    /// and after.
+    pub fn prune(
+        &mut self,
+        seen: &Notice,
+        base: &Arc<Edition>,
+        pairs: &Pairs,
+    ) -> Result<Pruned, NoMemory>
+        requires list { seen.now.list ≡ N.list }
+        requires base { newest_in seen.now ≡ Some (arc_value base.now) }
+        requires pairs { AreDominatedIn (arc_value base.now) pairs.now }
         ensures ok { IfOk result (λ answer. IsPrunedFor self.old.book (arc_value base.now) pairs.now answer self.new.book) }
         ensures published { OnOk result (self.new.list.editions ≡ self.new.book.editions) }
         ensures event { MayPrune self.old.book (arc_value base.now) pairs.now self.new.book }
         ensures on { ListGoesOn self.old.list self.new.list }
         ensures working { self.new.working ≡ self.old.working }
     {
-        let answer = self.prune_alone(base, pairs)?;
+        self.publish()?;
+        let answer = self.prune_alone(seen, base, pairs)?;
         self.publish()?;
         Ok(answer)
     }
 
-    fn prune_alone(&mut self, base: &Arc<Edition>, pairs: &Pairs) -> Result<Pruned, NoMemory>
-        requires { AreDominatedIn (arc_value base.now) pairs.now }
+    fn prune_alone(
+        &mut self,
+        seen: &Notice,
+        base: &Arc<Edition>,
+        pairs: &Pairs,
+    ) -> Result<Pruned, NoMemory>
+        requires whole { self.old.list.editions ≡ self.old.book.editions }
+        requires list { seen.now.list ≡ N.list }
+        requires base { newest_in seen.now ≡ Some (arc_value base.now) }
+        requires pairs { AreDominatedIn (arc_value base.now) pairs.now }
         ensures ok { IfOk result (λ answer. IsPrunedFor self.old.book (arc_value base.now) pairs.now answer self.new.book) }
         ensures err { OnErr result (self.new.book ≡ self.old.book) }
         ensures list { self.new.list ≡ self.old.list }
         ensures working { self.new.working ≡ self.old.working }
     {
-        prune_on(&mut self.book, base, pairs)
+        prune_on(
+            &mut self.book,
+            self.held.publisher.newest(),
+            seen,
+            base,
+            pairs,
+        )
     }
 
     /// Publishes the editions that aren't published yet.
@@ -181,11 +235,34 @@ impl<N: ListName, R: Wait + Drop> Locked<N, R> {
         self.held.publish_all(&self.book)
     }
 
-    /// Looks for an edition that wasn't examined, of which this was the last number.
-    pub fn look(&self, examined: u64) -> Result<Look, NoMemory>
-        ensures { IfOk result (λ look. IsLook self.now.book self.now.working examined look) }
+    /// Looks for an edition that wasn't examined, of which this was the last number. Where there is one, each edition of the book that
+    /// isn't published yet is published.
+    pub fn look(&mut self, examined: u64) -> Result<Look, NoMemory>
+        ensures look { IfOk result (λ look. IsLook N.list self.old.book self.old.working examined look) }
+        ensures book { self.new.book ≡ self.old.book }
+        ensures on { ListGoesOn self.old.list self.new.list }
+        ensures working { self.new.working ≡ self.old.working }
     {
-        look_at(&self.book, self.working, examined)
+        if is_over(&self.book, self.working) {
+            return Ok(Look::Over);
+        }
+        if self.book.count() - 1 <= examined {
+            return Ok(Look::Examined);
+        }
+        let seen = self.latest()?;
+        Ok(Look::Newer(seen))
+    }
+
+    /// A notice of the latest edition of the book. Publishes each of its editions that isn't published yet.
+    fn latest(&mut self) -> Result<Notice, NoMemory>
+        ensures latest { IfOk result (λ n. n.editions ≡ self.old.book.editions) }
+        ensures named { IfOk result (λ n. n.list ≡ N.list) }
+        ensures book { self.new.book ≡ self.old.book }
+        ensures on { ListGoesOn self.old.list self.new.list }
+        ensures working { self.new.working ≡ self.old.working }
+    {
+        self.publish()?;
+        self.tell()
     }
 
     /// One worker less is at work.

@@ -44,12 +44,13 @@ fn examine<N: ListName, R: Wait, L: Wait + Drop>(
             pause();
             Ok(Some(examined))
         }
-        Look::Newer(base) => {
-            let pairs = dominated_in(alloc, &base)?;
+        Look::Newer(seen) => {
+            let base = seen.edition();
+            let pairs = dominated_in(alloc, base)?;
             if pairs.len() > 0 {
-                locked.lock(rt).prune(&base, &pairs)?;
+                locked.lock(rt).prune(&seen, base, &pairs)?;
             }
-            Ok(Some(base.number()))
+            Ok(Some(seen.number()))
         }
     }
 }

@@ -59,7 +59,7 @@ fn turn<N: ListName, G: Gate, R: Wait, L: Wait + Drop>(
         return Ok(false);
     };
     gate.before_backup(work.belief);
-    let candidate = point_backup(alloc, &work.base, work.belief, kept)?;
-    locked.lock(rt).settle(alloc, candidate, kept)?;
+    let candidate = point_backup(alloc, work.seen.edition(), work.belief, kept)?;
+    locked.lock(rt).settle(alloc, &work.seen, candidate, kept)?;
     Ok(true)
 }

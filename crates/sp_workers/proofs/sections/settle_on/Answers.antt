@@ -1,12 +1,16 @@
-use Rattle.std.proofs.Common.{inl}
-use Rattle.sp_planner.proofs.Later.{later_same, later_settled}
+use Rattle.std.proofs.Common.{ℕ, inr, subst}
+use Rattle.std.proofs.lemmas.Bool.Decides.{when_true, when_false}
+use Rattle.sp_core.specs.Settling.{IsOurs}
+use Rattle.sp_workers.specs.Sections.{IsSettledAnew}
 use Rattle.sp_workers.proofs.sections.settle_on.Goals as goal
 
-pub returns-in-Ok-clause-later : goal.returns-in-Ok-clause-later
-returns-in-Ok-clause-later c = later_settled c.args.book.now c.args.candidate _ c.settle.new.self c.in-Ok.ensures.ok
+pub settle_ours-requires : goal.settle_ours-requires
+settle_ours-requires c =
+    when_true (IsOurs c.args.book.now c.args.candidate.base) (¬ IsOurs c.args.book.now c.args.candidate.base) c.if-is_ours.true (c.is_ours.ensures c.args.candidate.base c.requires.base)
 
-pub returns-in-Ok-clause-ok : goal.returns-in-Ok-clause-ok
-returns-in-Ok-clause-ok c = inl c.in-Ok.ensures.ok
-
-pub returns-in-Err-NoMemory-clause-later : goal.returns-in-Err-NoMemory-clause-later
-returns-in-Err-NoMemory-clause-later c = later_same _ _ c.in-Err-NoMemory.ensures.unchanged
+pub returns-clause-ok : goal.returns-clause-ok
+returns-clause-ok c =
+    inr (
+      when_false (IsOurs c.args.book.now c.args.candidate.base) (¬ IsOurs c.args.book.now c.args.candidate.base) c.if-is_ours.false (c.is_ours.ensures c.args.candidate.base c.requires.base),
+      subst (λ (k : ℕ). IsSettledAnew c.args.book.now k c.in_ok-answer.answer c.settle_anew.new.book) c.belief-belief.ensures c.in_ok-answer.ensures.ok,
+    )

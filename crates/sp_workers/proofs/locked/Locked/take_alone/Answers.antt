@@ -1,13 +1,12 @@
 use Rattle.std.proofs.Common.{◌≡◌, sym, subst, true}
-use Rattle.std.specs.Prelude.{IfOk, MatchOption}
-use Rattle.std.specs.Arc.{arc_value}
+use Rattle.std.specs.Prelude.{MatchOption}
 use Rattle.sp_value.specs.Tasks.{TaskParts}
 use Rattle.sp_core.specs.Books.{state_of}
 use Rattle.sp_workers.specs.Shared.{Shared}
 use Rattle.sp_workers.specs.Sections.{IsWorkOf}
 use Rattle.sp_workers.proofs.Beginnings.{named_task}
 use Rattle.sp_workers.proofs.Growing.{prefix_same, shared_book}
-use Rattle.sp_workers.proofs.locked.Locked.take.Goals as goal
+use Rattle.sp_workers.proofs.locked.Locked.take_alone.Goals as goal
 
 pub invariant_of-self : goal.invariant_of-self
 invariant_of-self g c =
@@ -16,6 +15,6 @@ invariant_of-self g c =
 pub returns-clause-work : goal.returns-clause-work
 returns-clause-work g c =
     let h = c.self.invariant in
-    subst (λ (s : Shared). IfOk c.take_work.result (λ taken. MatchOption taken ((state_of s.book).done ≡ true) (λ w. IsWorkOf g.N.ListName.first.task w.belief (arc_value w.base)))) c.self.view_is
-    (subst (λ (t : TaskParts). IfOk c.take_work.result (λ taken. MatchOption taken ((state_of c.self.inside.book).done ≡ true) (λ w. IsWorkOf t w.belief (arc_value w.base))))
+    subst (λ (s : Shared). MatchOption c.take_work.result ((state_of s.book).done ≡ true) (λ w. IsWorkOf g.N.ListName.first.task w.belief w.seen)) c.self.view_is
+    (subst (λ (t : TaskParts). MatchOption c.take_work.result ((state_of c.self.inside.book).done ≡ true) (λ w. IsWorkOf t w.belief w.seen))
     (sym (named_task g.N.ListName.list g.N.ListName.first c.self.inside.book c.self.inside.held.publisher h.book h.beginning h.named)) c.take_work.ensures.work)
