@@ -1,0 +1,4 @@
+pub mod Dealing
+pub mod Gathered
+pub mod Parts
+pub mod Ending

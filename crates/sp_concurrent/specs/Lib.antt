@@ -1,0 +1,4 @@
+pub mod Deals
+pub mod Gathered
+pub mod Served
+pub mod Laws
