@@ -374,10 +374,10 @@ def applying(members, pairs):
             applied.append((x, y))
     return applied, rest
 
-def planned(m, options):
-    """The finished book of one thread."""
+def planned(m, options, worker=0):
+    """The finished book of one thread: of the caller, or of the worker of this number."""
     beliefs, _, stages, seed, _, prune = options
-    book, words = Book(m, *options), Words(seed + 1)
+    book, words = Book(m, *options), Words(seed + 1 + worker)
     for _ in range(beliefs * stages):
         belief, count = book.pick(words.next()), len(book.editions)
         if belief is None: continue

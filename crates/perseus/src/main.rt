@@ -2,11 +2,13 @@
 #![tactic(auto)]
 
 use sp_choose::{Chooser, Sweep, Uniform};
-use sp_outside::{DirStore, Sink, StdSink, write_whole};
-use sp_tool::{Status, run_plain};
-use std::alloc::AllocError;
+use sp_outside::{DirStore, Sink, StdSink, Store, write_whole};
+use sp_tool::{Status, run_tool};
+use std::alloc::{AllocError, Global};
 use std::io::ErrorKind;
 use std::process::ExitCode;
+use std::sync::Wait;
+use std::thread::Threads;
 use std::{env, io};
 
 /// The words behind the program's name.
@@ -15,14 +17,18 @@ fn words(rt: &HostRuntime) -> io::Result<Vec<String>> {
 }
 
 /// Runs the command of these words.
-fn run<E: Sink>(rt: &HostRuntime, words: &[String], err: &mut E) -> Result<Status, AllocError> {
-    let alloc = rt.alloc();
+fn run<R: Threads + Wait + Sync, S: Store, K: Sink, E: Sink>(
+    rt: &R,
+    alloc: Global,
+    words: &[String],
+    store: &mut S,
+    out: &mut K,
+    err: &mut E,
+) -> Result<Status, AllocError> {
     let mut choosers: Vec<Box<dyn Chooser + Send>> = Vec::new(alloc);
     choosers.push(Box::new(alloc, Uniform)?)?;
     choosers.push(Box::new(alloc, Sweep::new())?)?;
-    let mut store = DirStore::new(rt);
-    let mut out = StdSink::new(rt.stdout());
-    Ok(run_plain(alloc, words, choosers, &mut store, &mut out, err))
+    Ok(run_tool(rt, alloc, words, choosers, store, out, err))
 }
 
 fn main(rt: HostRuntime) -> ExitCode {
@@ -33,7 +39,16 @@ fn main(rt: HostRuntime) -> ExitCode {
         Err(error) if error.kind() == ErrorKind::InvalidData => Vec::new(rt.alloc()),
         Err(_) => return out_of_memory(&mut err),
     };
-    match run(&rt, words.as_slice(), &mut err) {
+    let mut store = DirStore::new(&rt);
+    let mut out = StdSink::new(rt.stdout());
+    match run(
+        &rt,
+        rt.alloc(),
+        words.as_slice(),
+        &mut store,
+        &mut out,
+        &mut err,
+    ) {
         Ok(status) => ExitCode::from(status.number()),
         Err(_) => out_of_memory(&mut err),
     }

@@ -12,9 +12,13 @@
 //! | `read K`, `write K`, `tell K` | the K-th read, the K-th write to out, the K-th write to err fails |
 //! | `most N` | out takes at most N bytes at once |
 //! | `first N` | only the first N lines of out are printed |
+//! | `events A B`, `editions A B`, `sessions A B` | how many of each an audit of the text may count: at least A and at most B |
 //! | `status N`, `out`, `err`, `asks JOB`, `takes JOB` | what is wanted; bytes of out and err stand behind the line, as those of a text |
-//! | `run` | the call is made, and what it gives is printed |
+//! | `run` | the call is made, and what it gives is printed, with how many of its two choosers were dropped |
 //! | `twice` | the same, and whether a second call gives the same again |
+//! | `audited` | the same as `run`, and whether an audit finds the text legal, with counts that it may have |
+//! | `held step`, `held backup` | the same, with a gate that holds the first backup until a session made a step, or a second backup was begun; whether it was released in time, and whether all backups of the text passed it |
+//! | `held editions` | the same by two workers: the first backup is held until the other worker has made editions, and that one then until the first worker comes again; also whether a backup is on an edition that wasn't the newest any more |
 //! | `beginnings` | the call is made on each beginning of its files, of no byte, of one byte and so on |
 //! | `job` | what the words ask for is printed, and what the parser alone takes them for |
 //!
@@ -26,6 +30,8 @@ use crate::case::Case;
 use crate::stopped::Stopped;
 use sp_outside::Files;
 use std::alloc::Global;
+use std::sync::Wait;
+use std::thread::Threads;
 
 /// The bytes before the first line end, and those behind it.
 fn cut(bytes: &[u8]) -> (&[u8], &[u8]) {
@@ -60,21 +66,31 @@ impl Bundle {
     }
 
     /// Takes each line of the bundles, makes the calls that they ask for, and adds what these give to `out`.
-    pub fn take_lines(&mut self, source: &[u8], out: &mut Vec<u8>) -> Result<(), Stopped> {
+    pub fn take_lines<R: Threads + Wait + Sync>(
+        &mut self,
+        rt: &R,
+        source: &[u8],
+        out: &mut Vec<u8>,
+    ) -> Result<(), Stopped> {
         let mut rest = source;
         for _ in 0..source.len() {
             if rest.is_empty() {
                 return Ok(());
             }
             let (line, more) = cut(rest);
-            self.take_line(line, out)?;
+            self.take_line(rt, line, out)?;
             rest = more;
         }
         Ok(())
     }
 
     /// Takes the next line.
-    fn take_line(&mut self, line: &[u8], out: &mut Vec<u8>) -> Result<(), Stopped> {
+    fn take_line<R: Threads + Wait + Sync>(
+        &mut self,
+        rt: &R,
+        line: &[u8],
+        out: &mut Vec<u8>,
+    ) -> Result<(), Stopped> {
         match line.split_first() {
             None => Ok(()),
             Some((b'#', _)) => Ok(()),
@@ -87,21 +103,28 @@ impl Bundle {
                 self.text.extend_from_slice(rest)?;
                 Ok(())
             }
-            Some(_) => self.take_command(str::from_utf8(line)?, out),
+            Some(_) => self.take_command(rt, str::from_utf8(line)?, out),
         }
     }
 
     /// Takes a line that isn't of a text.
-    fn take_command(&mut self, line: &str, out: &mut Vec<u8>) -> Result<(), Stopped> {
+    fn take_command<R: Threads + Wait + Sync>(
+        &mut self,
+        rt: &R,
+        line: &str,
+        out: &mut Vec<u8>,
+    ) -> Result<(), Stopped> {
         let (kind, rest) = line.split_once(' ').unwrap_or((line, ""));
         match kind {
             "text" => self.begin_text(rest),
             "status" | "out" | "err" | "asks" | "takes" | "accepted" => self.begin_text(""),
             "spaces" => self.add_spaces(rest),
             "case" => self.begin_case(rest),
-            "run" => self.case.run(&self.texts, out),
-            "twice" => self.case.run_twice(&self.texts, out),
-            "beginnings" => self.case.run_beginnings(&self.texts, out),
+            "run" => self.case.run(rt, &self.texts, out),
+            "twice" => self.case.run_twice(rt, &self.texts, out),
+            "audited" => self.case.run_audited(rt, &self.texts, out),
+            "held" => self.case.run_held(rt, rest, &self.texts, out),
+            "beginnings" => self.case.run_beginnings(rt, &self.texts, out),
             "job" => self.case.read_job(out),
             _ => self.case.take(kind, rest),
         }

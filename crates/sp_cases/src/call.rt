@@ -1,11 +1,16 @@
 //! One call of the top call.
 
+use crate::choosers::Counted;
+use crate::hold::Hold;
 use crate::stopped::Stopped;
 use sp_choose::{Chooser, Sweep, Uniform};
 use sp_dd::{Ids, NoMemory};
 use sp_outside::{Files, MemSink, MemStore};
-use sp_tool::{Status, run_plain};
+use sp_tool::{Status, run_gated, run_tool};
 use std::alloc::{AllocError, Global};
+use std::sync::atomic::{AtomicU64, Ordering};
+use std::sync::{Arc, Wait};
+use std::thread::Threads;
 
 /// Which reads and writes of a call fail, counted from 1, and how many bytes out takes at once.
 #[derive(Drop)]
@@ -46,6 +51,8 @@ impl Faults {
 #[derive(Drop)]
 pub struct Given {
     pub status: Status,
+    /// How many of its choosers were dropped.
+    pub drops: u64,
     pub out: MemSink,
     pub err: MemSink,
 }
@@ -57,6 +64,7 @@ impl Given {
         let err = sink_of(alloc, 65536, faults.tells.as_slice())?;
         Ok(Given {
             status: Status::Done,
+            drops: 0,
             out,
             err,
         })
@@ -70,26 +78,42 @@ impl Given {
     }
 }
 
-/// Makes a call on these files.
-pub fn give(
+/// Makes a call on these files, with a gate that may hold back a planner.
+pub fn give<R: Threads + Wait + Sync>(
+    rt: &R,
     alloc: Global,
     words: &[String],
     files: Files,
     faults: &Faults,
+    hold: Option<&Hold>,
 ) -> Result<Given, Stopped> {
     let mut store = MemStore::new(files, list_of(alloc, faults.reads.as_slice())?);
-    give_from(alloc, words, &mut store, faults)
+    give_from(rt, alloc, words, &mut store, faults, hold)
 }
 
 /// Makes a call on the files of a store.
-fn give_from(
+fn give_from<R: Threads + Wait + Sync>(
+    rt: &R,
     alloc: Global,
     words: &[String],
     store: &mut MemStore,
     faults: &Faults,
+    hold: Option<&Hold>,
 ) -> Result<Given, Stopped> {
     let mut given = Given::silent(alloc, faults)?;
-    given.status = call(alloc, words, store, &mut given.out, &mut given.err)?;
+    let drops = Arc::new(alloc, AtomicU64::new(0))?;
+    let counted = [Arc::try_clone(&drops)?, Arc::try_clone(&drops)?];
+    given.status = call(
+        rt,
+        alloc,
+        words,
+        counted,
+        store,
+        &mut given.out,
+        &mut given.err,
+        hold,
+    )?;
+    given.drops = drops.load(Ordering::SeqCst);
     Ok(given)
 }
 
@@ -107,16 +131,23 @@ fn list_of(alloc: Global, numbers: &[u64]) -> Result<Ids, NoMemory> {
     Ok(list)
 }
 
-/// Calls the tool with the two ways to choose actions, at random and in turn.
-fn call(
+/// Calls the tool with the two ways to choose actions, at random and in turn, whose drops are counted.
+fn call<R: Threads + Wait + Sync>(
+    rt: &R,
     alloc: Global,
     words: &[String],
+    drops: [Arc<AtomicU64>; 2],
     store: &mut MemStore,
     out: &mut MemSink,
     err: &mut MemSink,
+    hold: Option<&Hold>,
 ) -> Result<Status, AllocError> {
+    let [uniform, sweep] = drops;
     let mut choosers: Vec<Box<dyn Chooser + Send>> = Vec::new(alloc);
-    choosers.push(Box::new(alloc, Uniform)?)?;
-    choosers.push(Box::new(alloc, Sweep::new())?)?;
-    Ok(run_plain(alloc, words, choosers, store, out, err))
+    choosers.push(Box::new(alloc, Counted::new(Uniform, uniform))?)?;
+    choosers.push(Box::new(alloc, Counted::new(Sweep::new(), sweep))?)?;
+    Ok(match hold {
+        None => run_tool(rt, alloc, words, choosers, store, out, err),
+        Some(gate) => run_gated(rt, alloc, gate, words, choosers, store, out, err),
+    })
 }

@@ -1,11 +1,16 @@
 //! A case: a call, and how it is made.
 
+use crate::audits::{audit_of, push_audit, push_hold};
 use crate::call::{Faults, Given, give};
+use crate::counts::Counts;
+use crate::hold::{Hold, Until};
 use crate::jobs::push_jobs;
 use crate::lines::{push_beginning, push_given, push_head, push_twice};
 use crate::stopped::Stopped;
 use sp_outside::Files;
 use std::alloc::Global;
+use std::sync::Wait;
+use std::thread::Threads;
 
 /// A file of a case, and the name of the text that has its bytes.
 #[derive(Drop)]
@@ -24,6 +29,8 @@ pub struct Case {
     faults: Faults,
     /// How many lines of out are printed.
     lines: u64,
+    /// What an audit of its text may count.
+    counts: Counts,
 }
 
 impl Case {
@@ -36,6 +43,7 @@ impl Case {
             files: Vec::new(alloc),
             faults: Faults::new(alloc),
             lines: u64::MAX,
+            counts: Counts::new(),
         }
     }
 
@@ -55,6 +63,7 @@ impl Case {
                 self.lines = rest.parse::<u64>()?;
                 Ok(())
             }
+            "events" | "editions" | "sessions" => self.counts.take(kind, rest),
             _ => self.faults.take(kind, rest.parse::<u64>()?),
         }
     }
@@ -93,30 +102,96 @@ impl Case {
     }
 
     /// Makes the call on files of at most so many bytes.
-    fn give(&self, texts: &Files, most: usize) -> Result<Given, Stopped> {
+    fn give<R: Threads + Wait + Sync>(
+        &self,
+        rt: &R,
+        texts: &Files,
+        most: usize,
+    ) -> Result<Given, Stopped> {
         let files = self.files_to(texts, most)?;
-        give(self.alloc, self.words.as_slice(), files, &self.faults)
+        give(
+            rt,
+            self.alloc,
+            self.words.as_slice(),
+            files,
+            &self.faults,
+            None,
+        )
     }
 
     /// Makes the call, and adds what it gives.
-    pub fn run(&self, texts: &Files, out: &mut Vec<u8>) -> Result<(), Stopped> {
+    pub fn run<R: Threads + Wait + Sync>(
+        &self,
+        rt: &R,
+        texts: &Files,
+        out: &mut Vec<u8>,
+    ) -> Result<(), Stopped> {
         push_head(self.alloc, out, self.name.as_str())?;
-        let given = self.give(texts, usize::MAX)?;
+        let given = self.give(rt, texts, usize::MAX)?;
         push_given(self.alloc, out, &given, self.lines)
     }
 
     /// Makes the call twice, and adds whether it gives the same again, and what it gives.
-    pub fn run_twice(&self, texts: &Files, out: &mut Vec<u8>) -> Result<(), Stopped> {
+    pub fn run_twice<R: Threads + Wait + Sync>(
+        &self,
+        rt: &R,
+        texts: &Files,
+        out: &mut Vec<u8>,
+    ) -> Result<(), Stopped> {
         push_head(self.alloc, out, self.name.as_str())?;
-        let given = self.give(texts, usize::MAX)?;
-        let same = self.gives_same(texts, &given)?;
+        let given = self.give(rt, texts, usize::MAX)?;
+        let same = self.gives_same(rt, texts, &given)?;
         push_twice(self.alloc, out, &given, same, self.lines)
     }
 
     /// Whether the call gives the same as it gave.
-    fn gives_same(&self, texts: &Files, given: &Given) -> Result<bool, Stopped> {
-        let again = self.give(texts, usize::MAX)?;
+    fn gives_same<R: Threads + Wait + Sync>(
+        &self,
+        rt: &R,
+        texts: &Files,
+        given: &Given,
+    ) -> Result<bool, Stopped> {
+        let again = self.give(rt, texts, usize::MAX)?;
         Ok(given.same(&again))
+    }
+
+    /// Makes the call, and adds what it gives, and what an audit of its text gives.
+    pub fn run_audited<R: Threads + Wait + Sync>(
+        &self,
+        rt: &R,
+        texts: &Files,
+        out: &mut Vec<u8>,
+    ) -> Result<(), Stopped> {
+        push_head(self.alloc, out, self.name.as_str())?;
+        let given = self.give(rt, texts, usize::MAX)?;
+        push_given(self.alloc, out, &given, self.lines)?;
+        let audit = audit_of(rt, self.alloc, given.out.text())?;
+        push_audit(self.alloc, out, &audit, self.counts)
+    }
+
+    /// The same with a gate, of which it is added whether it let the first backup go on, and whether all backups passed it.
+    pub fn run_held<R: Threads + Wait + Sync>(
+        &self,
+        rt: &R,
+        until: &str,
+        texts: &Files,
+        out: &mut Vec<u8>,
+    ) -> Result<(), Stopped> {
+        push_head(self.alloc, out, self.name.as_str())?;
+        let files = self.files_to(texts, usize::MAX)?;
+        let hold = Hold::new(Until::of(until)?);
+        let given = give(
+            rt,
+            self.alloc,
+            self.words.as_slice(),
+            files,
+            &self.faults,
+            Some(&hold),
+        )?;
+        push_given(self.alloc, out, &given, self.lines)?;
+        let audit = audit_of(rt, self.alloc, given.out.text())?;
+        push_audit(self.alloc, out, &audit, self.counts)?;
+        push_hold(self.alloc, out, &hold, given.out.text())
     }
 
     /// How many bytes the longest file has.
@@ -130,22 +205,28 @@ impl Case {
     }
 
     /// Makes the call on each beginning of its files, and adds what each gives.
-    pub fn run_beginnings(&self, texts: &Files, out: &mut Vec<u8>) -> Result<(), Stopped> {
+    pub fn run_beginnings<R: Threads + Wait + Sync>(
+        &self,
+        rt: &R,
+        texts: &Files,
+        out: &mut Vec<u8>,
+    ) -> Result<(), Stopped> {
         push_head(self.alloc, out, self.name.as_str())?;
         for length in 0..=self.longest(texts)? {
-            self.run_beginning(texts, length, out)?;
+            self.run_beginning(rt, texts, length, out)?;
         }
         Ok(())
     }
 
     /// Makes the call on the first bytes of its files, and adds what it gives.
-    fn run_beginning(
+    fn run_beginning<R: Threads + Wait + Sync>(
         &self,
+        rt: &R,
         texts: &Files,
         length: usize,
         out: &mut Vec<u8>,
     ) -> Result<(), Stopped> {
-        let given = self.give(texts, length)?;
+        let given = self.give(rt, texts, length)?;
         push_beginning(self.alloc, out, length as u64, &given)
     }
 

@@ -5,7 +5,12 @@ use crate::stopped::Stopped;
 use std::alloc::Global;
 
 /// Adds a word and a number.
-fn push_number(alloc: Global, out: &mut Vec<u8>, word: &str, number: u64) -> Result<(), Stopped> {
+pub fn push_number(
+    alloc: Global,
+    out: &mut Vec<u8>,
+    word: &str,
+    number: u64,
+) -> Result<(), Stopped> {
     let line = format!(in alloc; "{word} {number}\n")?;
     out.extend_from_slice(line.as_bytes())?;
     Ok(())
@@ -44,7 +49,7 @@ fn first_lines(bytes: &[u8], lines: u64) -> &[u8] {
     bytes
 }
 
-/// Adds what a call gave: its status, so many lines of out, and err.
+/// Adds what a call gave: its status, how many choosers it dropped, so many lines of out, and err.
 pub fn push_given(
     alloc: Global,
     out: &mut Vec<u8>,
@@ -52,6 +57,7 @@ pub fn push_given(
     lines: u64,
 ) -> Result<(), Stopped> {
     push_number(alloc, out, "status", given.status.number() as u64)?;
+    push_number(alloc, out, "drops", given.drops)?;
     push_bytes(alloc, out, "out", first_lines(given.out.text(), lines))?;
     push_bytes(alloc, out, "err", given.err.text())
 }

@@ -2,17 +2,24 @@
 //! bundles say is wanted, as `tools/make-cases` writes it into `stdout`.
 #![tactic(auto)]
 
+mod audits;
 mod bundle;
 mod call;
 mod case;
+mod choosers;
+mod counts;
+mod hold;
 mod jobs;
 mod lines;
 mod stopped;
 
 use bundle::Bundle;
 use sp_outside::{DirStore, StdSink, read_whole, write_whole};
+use std::alloc::Global;
 use std::env;
 use std::process::ExitCode;
+use std::sync::Wait;
+use std::thread::Threads;
 use stopped::Stopped;
 
 /// How many bytes a bundle may have.
@@ -39,16 +46,27 @@ fn read_bundles(rt: &HostRuntime, names: &[String]) -> Result<Vec<u8>, Stopped> 
     Ok(source)
 }
 
+/// The bytes of the bundles that the words name.
+fn source(rt: &HostRuntime) -> Result<Vec<u8>, Stopped> {
+    read_bundles(rt, names(rt)?.as_slice())
+}
+
 /// Runs the cases of the bundles, and adds what they give, up to a line that has no meaning.
-fn run(rt: &HostRuntime, out: &mut Vec<u8>) -> Result<(), Stopped> {
-    let names = names(rt)?;
-    let source = read_bundles(rt, names.as_slice())?;
-    Bundle::new(rt.alloc()).take_lines(source.as_slice(), out)
+fn run<R: Threads + Wait + Sync>(
+    rt: &R,
+    alloc: Global,
+    source: &[u8],
+    out: &mut Vec<u8>,
+) -> Result<(), Stopped> {
+    Bundle::new(alloc).take_lines(rt, source, out)
 }
 
 fn main(rt: HostRuntime) -> ExitCode {
     let mut out = Vec::new(rt.alloc());
-    let ended = run(&rt, &mut out);
+    let ended = match source(&rt) {
+        Ok(source) => run(&rt, rt.alloc(), source.as_slice(), &mut out),
+        Err(stopped) => Err(stopped),
+    };
     let written = write_whole(&mut StdSink::new(rt.stdout()), out.as_slice());
     if ended.is_ok() && written.is_ok() {
         ExitCode::SUCCESS

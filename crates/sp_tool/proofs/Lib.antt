@@ -4,5 +4,3 @@ pub mod SecondFiles
 pub mod LineLemmas
 pub mod Pushed
 pub mod PlanTexts
-pub mod ScriptPlans
-pub mod PlannedFiles

@@ -17,7 +17,7 @@ use Rattle.sp_words.specs.declared.job.PlanWords.{PlanWords}
 use Rattle.sp_words.specs.declared.job.Job.TheVariants.{Plan, Act}
 use Rattle.sp_tool.specs.Inputs.{Input, model_file, plan_file, script_file, name_of, TellsModel, TellsNone, model_limit, plan_limit, script_limit, IsMeant, TellsFault, IsAccepted, Ending, all_accepted, last_refused, last_forbidden, next_unread, EndsWhole, EndsAt, EndsBehind}
 use Rattle.sp_tool.specs.Table.{script_of, Told, Saw, Allows, IsTextFor}
-use Rattle.sp_tool.specs.Texts.{IsScriptPlanText}
+use Rattle.sp_tool.specs.Texts.{IsPlanText}
 use Rattle.sp_tool.specs.Faults.{HindersBehind, HindersFiles, Hinders}
 use Rattle.sp_tool.specs.declared.fault.Fault.{Fault}
 use Rattle.sp_tool.specs.declared.fault.Fault.TheVariants as Faults
@@ -127,7 +127,7 @@ plan_text_of p sessions store files text is saw may = (files, subst (λ (s : Opt
 -- the text of a plan with a script, and what hinders the script
 module _ (p : PlanWords) (script : List ℕ) (named : p.sessions ≡ Some script) (store mid : Folder) (since : IsLaterFolder store mid)
     (source : List ℕ) (model : Parts) (same : Told (store.content p.model) source) (short : length source ≤ model_limit) (reads : Reads source model) where
-  pub script_plan_text_of : (commands : List ℕ) (cs : List Command) (text : List ℕ) → Told (mid.content script) commands → length commands ≤ script_limit → IsScript model.sights commands cs → IsScriptPlanText model p cs text
+  pub script_plan_text_of : (commands : List ℕ) (cs : List Command) (text : List ℕ) → Told (mid.content script) commands → length commands ≤ script_limit → IsScript model.sights commands cs → IsPlanText model p cs text
       → IsTextFor store (Plan p) text
   script_plan_text_of commands cs text told few means is =
       plan_text_of p (Some script) store (source ∷ commands ∷ []) text named (same, (told_earlier store mid script commands since told, tt)) ((λ e. cc), (short, (model, reads, (few, (cs, means, is)))))

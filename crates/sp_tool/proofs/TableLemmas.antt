@@ -1,6 +1,6 @@
 -- The table: what one cause bars of the others.
 use Rattle.std.proofs.Common.{◌≡◌, ℕ, ◌+◌, ◌<◌, ◌≤◌, List, [], ◌∷◌, length, Option, Some, None, Result, refl, sym, ◌∙◌, subst, Contains, arith, replicate, OnOk, OnErr, Ok, Err, inl, inr}
-use Rattle.std.specs.Prelude.{◌≢◌, IfOk, MatchResult}
+use Rattle.std.specs.Prelude.{◌≢◌, IfOk, MatchResult, MatchOption}
 use Rattle.std.proofs.lemmas.List.{append-nil, length-replicate}
 use Rattle.sp_outside.specs.Folder.{Folder, IsLaterFolder}
 use Rattle.sp_outside.specs.Written.{WrittenBytes}
@@ -10,9 +10,10 @@ use Rattle.sp_gen.specs.Models.{generated_text}
 use Rattle.sp_model.specs.declared.parts.Parts.{Parts}
 use Rattle.sp_words.specs.declared.job.Job.{Job}
 use Rattle.sp_words.specs.declared.job.Job.TheVariants.{Plan, Check, Show, Gen, Trial, Audit, Migrate, Act}
-use Rattle.sp_words.specs.Jobs.{Asks}
+use Rattle.sp_words.specs.declared.job.PlanWords.{PlanWords}
+use Rattle.sp_words.specs.Jobs.{Asks, IsPossible}
 use Rattle.sp_tool.specs.Inputs.{Input, model_file, script_file, name_of, limit_of, TellsModel, TellsNone, IsAccepted, Ending, all_accepted, last_refused, last_forbidden, Ends}
-use Rattle.sp_tool.specs.Table.{script_of, inputs, names, Allows, Grants, Refuses, Forbids, Told, Saw, Holds, Call, Cause, Tells, NoFault, Answers, AgreeSoFar, FilesEndOnce}
+use Rattle.sp_tool.specs.Table.{IsPlain, IsConcurrentPlan, script_of, inputs, names, Allows, Grants, Refuses, Forbids, Told, Saw, Holds, Call, Cause, Tells, NoFault, Answers, AgreeSoFar, FilesEndOnce}
 use Rattle.sp_tool.specs.declared.status.Status.{Status}
 use Rattle.sp_tool.specs.declared.status.Status.TheVariants.{Done, Refused, Usage, NoMemory, ReadFault, WriteFault, NotLegal}
 use Rattle.sp_tool.specs.Faults.{status_of, line_of, TellsReason, HindersReading, HindersBehind, Hinders}
@@ -192,14 +193,27 @@ not_done Faults.WriteFault e = cc
 not_done (Faults.NotLegal line) e = cc
 
 -- a fault whose line was told is an answer
-pub fault_answers : (words : List (List ℕ)) (store later : Folder) (out end err gone : WrittenBytes) (fault : Fault) (line : List ℕ) (status : Status) {T E : Type 0} (r : Result T E)
-    → Cause (record { words = words; store = store; later = later; out = out; end = end }) (status_of fault) (line_of fault)
-    → line ≡ line_of fault → status ≡ status_of fault
-    → OnOk r (Appended err.bytes gone.bytes line) → OnErr r (AppendedPart err.bytes gone.bytes line) → HasCause err.faults gone.faults r → IsLaterFolder store later
-    → Answers (record { words = words; store = store; later = later; out = out; end = end }) err gone status
-fault_answers words store later out end err gone fault line status r cause e s whole part risen is_later =
-    let cause' : Cause (record { words = words; store = store; later = later; out = out; end = end }) status line = rw (e, s) cause in
-    answers (record { words = words; store = store; later = later; out = out; end = end }) err gone status line cause' (tells line err gone r whole part risen) (λ done. absurd (not_done fault (sym s ∙ done))) is_later
+pub fault_answers : (c : Call) (err gone : WrittenBytes) (fault : Fault) (line : List ℕ) (status : Status) {T E : Type 0} (r : Result T E)
+    → Cause c (status_of fault) (line_of fault) → line ≡ line_of fault → status ≡ status_of fault
+    → OnOk r (Appended err.bytes gone.bytes line) → OnErr r (AppendedPart err.bytes gone.bytes line) → HasCause err.faults gone.faults r → IsLaterFolder c.store c.later
+    → Answers c err gone status
+fault_answers c err gone fault line status r cause e s whole part risen is_later =
+    let cause' : Cause c status line = rw (e, s) cause in
+    answers c err gone status line cause' (tells line err gone r whole part risen) (λ done. absurd (not_done fault (sym s ∙ done))) is_later
+
+-- a job is plain where the words ask for it and for none but plain ones
+pub all_plain : (words : List (List ℕ)) (job : Job) → Asks words job → IsPlain job → (other : Job) → Asks words other → IsPlain other
+all_plain words job asks plain other asked = subst IsPlain (same_job words job other asks asked) plain
+
+-- what a job asks for is what words ask for that ask for it
+pub concurrent_plan_of : (words : List (List ℕ)) (job : Job) (found : Option PlanWords) → Asks words job → IsPossible job
+    → MatchOption found (IsPlain job) (λ p. (job ≡ Plan p) × (0 < p.workers)) → IsConcurrentPlan words found
+concurrent_plan_of words job None asks may plain = all_plain words job asks plain
+concurrent_plan_of words job (Some p) asks may is = (subst (Asks words) is.0 asks, subst IsPossible is.0 may, is.1)
+
+-- nothing has changed
+pub still : (store : Folder) → IsLaterFolder store store
+still store = record { content = λ name. refl; faults = λ name. omega arith }
 
 -- what hinders the reading of a file hinders a job that reads it
 pub unread_hinders : (told : Parts → Type 0) (input : Input) (store later : Folder) (fault : Fault) → HindersReading (name_of input) (limit_of input) store later fault → HindersBehind told (input ∷ []) store later fault

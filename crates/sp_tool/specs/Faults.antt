@@ -1,12 +1,12 @@
 -- Why a call isn't done, with the status and the line of each.
-use Rattle.std.specs.Prelude.{◌≡◌, ℕ, ◌<◌, List, length, map, string_bytes, ⊤}
+use Rattle.std.specs.Prelude.{◌≡◌, ℕ, ◌<◌, List, [], length, map, string_bytes, ⊤, Result, MatchResult}
 use Rattle.sp_outside.specs.Folder.{Folder}
 use Rattle.sp_outside.specs.Counts.{Rose}
 use Rattle.sp_model.specs.declared.parts.Parts.{Parts}
 use Rattle.sp_words.specs.declared.job.Job.{Job}
 use Rattle.sp_tool.specs.Lines.{usage_line, no_memory_line, cannot_write_line, cannot_read_line, too_long_line}
 use Rattle.sp_tool.specs.Inputs.{Input, name_of, TellsNone, TellsFault, TellsIllegal, last_refused, last_forbidden, next_unread, EndsBehind}
-use Rattle.sp_tool.specs.Table.{inputs, Told, Saw}
+use Rattle.sp_tool.specs.Table.{inputs, Told, Saw, Call, Cause}
 use Rattle.sp_tool.specs.declared.status.Status.{Status}
 use Rattle.sp_tool.specs.declared.status.Status.TheVariants as Ended
 use Rattle.sp_tool.specs.declared.fault.Fault.{Fault}
@@ -29,6 +29,10 @@ line_of (Refused line) = line.items
 line_of (ReadFault line) = string_bytes line
 line_of WriteFault = cannot_write_line
 line_of (NotLegal line) = line.items
+
+-- a call has its cause: it is done, or there is this fault
+abbrev pub IsExplained : {T : Type 0} → Call → Result T Fault → Type 0
+IsExplained {T} c result = MatchResult result (λ _. Cause c Ended.Done []) (λ f. Cause c (status_of f) (line_of f))
 
 -- why these bytes of a file aren't what they have to be, behind a file that tells such a model
 abbrev pub TellsReason : (Parts → Type 0) → Input → List ℕ → Fault → Type 0

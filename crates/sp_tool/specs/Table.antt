@@ -1,5 +1,5 @@
 -- Which status a call may give, and what it writes.
-use Rattle.std.specs.Prelude.{◌≡◌, ℕ, ◌≤◌, List, [], ◌∷◌, length, map, Option, Some, None, ◌≢◌, Contains, ⊤, ◌⊎◌}
+use Rattle.std.specs.Prelude.{◌≡◌, ℕ, ◌<◌, ◌≤◌, List, [], ◌∷◌, length, map, Option, Some, None, ◌≢◌, Contains, ⊤, ◌⊎◌}
 use Rattle.sp_outside.specs.Folder.{Folder, IsLaterFolder}
 use Rattle.sp_outside.specs.Written.{WrittenBytes}
 use Rattle.sp_outside.specs.Counts.{Rose}
@@ -12,14 +12,31 @@ use Rattle.sp_script.specs.declared.command.Command.{Command}
 use Rattle.sp_script.specs.Script.{IsScript}
 use Rattle.sp_judging.specs.PlanFiles.{IsLegalPlan, IsAuditText, IsMigratedText}
 use Rattle.sp_judging.specs.ActTexts.{IsActText}
+use Rattle.sp_words.specs.declared.job.PlanWords.{PlanWords}
 use Rattle.sp_words.specs.declared.job.Job.{Job}
 use Rattle.sp_words.specs.declared.job.Job.TheVariants.{Plan, Check, Show, Gen, Trial, Audit, Migrate, Act}
-use Rattle.sp_words.specs.Jobs.{Asks}
+use Rattle.sp_words.specs.Jobs.{Asks, ArePlanNumbers}
 use Rattle.sp_tool.specs.Lines.{usage_line, no_memory_line, cannot_write_line, cannot_read_line}
 use Rattle.sp_tool.specs.Inputs.{Input, model_file, plan_file, script_file, name_of, model_limit, plan_limit, script_limit, all_accepted, last_refused, last_forbidden, next_unread, Ends}
-use Rattle.sp_tool.specs.Texts.{check_line, IsShownText, IsPlanText, IsScriptPlanText, IsTrialText}
+use Rattle.sp_tool.specs.Texts.{check_line, IsShownText, IsPlanText, IsTrialText}
 use Rattle.sp_tool.specs.declared.status.Status.{Status}
 use Rattle.sp_tool.specs.declared.status.Status.TheVariants.{Done, Refused, Usage, NoMemory, ReadFault, WriteFault, NotLegal}
+
+-- the job asks for no further threads
+abbrev pub IsPlain : Job → Type 0
+IsPlain (Plan p) = p.workers ≡ 0
+IsPlain (Check model) = Unit {0}
+IsPlain (Show model) = Unit {0}
+IsPlain (Gen number) = Unit {0}
+IsPlain (Trial number) = Unit {0}
+IsPlain (Audit plan) = Unit {0}
+IsPlain (Migrate plan) = Unit {0}
+IsPlain (Act plan script) = Unit {0}
+
+-- the plan on further threads that the words ask for, with its numbers in range; or they ask for none
+abbrev pub IsConcurrentPlan : List (List ℕ) → Option PlanWords → Type 0
+IsConcurrentPlan words None = (job : Job) → Asks words job → IsPlain job
+IsConcurrentPlan words (Some p) = Asks words (Plan p) × ArePlanNumbers p × (0 < p.workers)
 
 -- the script of that name, if there is one
 abbrev pub script_of : Option (List ℕ) → List Input
@@ -55,8 +72,8 @@ AcceptsScript source model P = (length source ≤ script_limit) × ((cs : List C
 
 -- for these bytes of its files a job may write this text
 abbrev pub Allows : Job → List (List ℕ) → List ℕ → Type 0
-Allows (Plan p) (source ∷ []) text = (p.sessions ≡ None) × Accepts source (λ model. IsPlanText model p text)
-Allows (Plan p) (source ∷ script ∷ []) text = (p.sessions ≢ None) × Accepts source (λ model. AcceptsScript script model (λ cs. IsScriptPlanText model p cs text))
+Allows (Plan p) (source ∷ []) text = (p.sessions ≡ None) × Accepts source (λ model. IsPlanText model p [] text)
+Allows (Plan p) (source ∷ script ∷ []) text = (p.sessions ≢ None) × Accepts source (λ model. AcceptsScript script model (λ cs. IsPlanText model p cs text))
 Allows (Check name) (source ∷ []) text = Accepts source (λ model. text ≡ check_line model)
 Allows (Show name) (source ∷ []) text = Accepts source (λ model. IsShownText model text)
 Allows (Gen number) [] text = text ≡ generated_text number
@@ -113,6 +130,10 @@ Saw store (name ∷ names) (bytes ∷ files) = Told (store.content name) bytes �
 -- a text that the job may write for bytes of its files, which are what the store tells where it does
 abbrev pub IsTextFor : Folder → Job → List ℕ → Type 0
 IsTextFor store job text = (files : List (List ℕ)) × Saw store (names job) files × Allows job files text
+
+-- what may be written for this model and these commands is what the plan may write
+abbrev pub AreInputs : Folder → PlanWords → Parts → List Command → Type 0
+AreInputs store p model cs = (text : List ℕ) → IsPlanText model p cs text → IsTextFor store (Plan p) text
 
 -- the store tells these bytes of the first of these names
 abbrev pub Holds : Folder → List (List ℕ) → List (List ℕ) → Type 0

@@ -12,8 +12,9 @@ use Rattle.sp_value.specs.declared.tasks.Options.{Options}
 use Rattle.sp_value.specs.declared.tasks.Explore.TheVariants.{Uniform, Sweep}
 use Rattle.sp_reader.specs.Sources.{Reads}
 use Rattle.sp_planfile.specs.ModelText.{model_bytes}
-use Rattle.sp_planning.specs.PlanFiles.{IsPlanFileFor, planned_contents, values_after}
+use Rattle.sp_planning.specs.PlanFiles.{values_after}
 use Rattle.sp_planning.specs.ScriptFiles.{IsScriptFileFor, scripted_contents}
+use Rattle.sp_planning.specs.RunFiles.{IsRunFileFor}
 use Rattle.sp_judging.specs.PlanFiles.{IsLegalFile}
 use Rattle.sp_script.specs.declared.command.Command.{Command}
 use Rattle.sp_planner.specs.declared.summary.Summary.{Summary}
@@ -55,43 +56,28 @@ options_of p = record { beliefs = p.beliefs; depth = p.depth; stages = p.stages;
 abbrev pub chooser_of : Bool → Machine
 chooser_of by_turns = cond by_turns (sweep 0) uniform
 
--- the text is the plan file of what one thread plans for the model, with the values of its editions; and its lines of the model mean that model
-pub record IsPlanText (model : Parts) (p : PlanWords) (text : List ℕ) : Type 0 where
-  pub file : IsPlanFileFor model (options_of p) (chooser_of p.sweep) text
+-- the text is the plan file of a run for the model, with the options and the sampled beliefs of the words, with the values of its editions and with the
+-- logs of the sessions of these commands; its lines of the model mean that model; and on no further threads the run and the logs are those of one thread
+pub record IsPlanText (model : Parts) (p : PlanWords) (cs : List Command) (text : List ℕ) : Type 0 where
+  pub file : IsRunFileFor model (options_of p) (chooser_of p.sweep) cs text
   pub meaning : Reads (model_bytes model) model
+  pub alone : p.workers ≡ 0 → IsScriptFileFor model (options_of p) (chooser_of p.sweep) cs text
 
--- the texts of two plans are the same only where the models and the options are, the actions and the observations of the beliefs, the events, and the values
--- of the editions
+-- the texts of two plans are the same only where the models and the options are, the actions and the observations of the beliefs, the events, the values
+-- of the editions, and the logs
 abbrev pub OnePlan : Type 0
 OnePlan =
-    (model other : Parts) (p q : PlanWords) (text : List ℕ) (one : IsPlanText model p text) (two : IsPlanText other q text)
-    → (model ≡ other) × (options_of p ≡ options_of q) × (planned_contents model one.file.task one.file.events ≡ planned_contents other two.file.task two.file.events)
-
--- the text is the plan file of what one thread plans for the model while it serves these commands, with the values of its editions and the logs of the
--- sessions; and its lines of the model mean that model
-pub record IsScriptPlanText (model : Parts) (p : PlanWords) (cs : List Command) (text : List ℕ) : Type 0 where
-  pub file : IsScriptFileFor model (options_of p) (chooser_of p.sweep) cs text
-  pub meaning : Reads (model_bytes model) model
-
--- the texts of two plans with sessions are the same only where the models and the options are, the actions and the observations of the beliefs, the
--- events, the values of the editions, and the logs
-abbrev pub OneScriptPlan : Type 0
-OneScriptPlan =
-    (model other : Parts) (p q : PlanWords) (cs ds : List Command) (text : List ℕ) (one : IsScriptPlanText model p cs text) (two : IsScriptPlanText other q ds text)
+    (model other : Parts) (p q : PlanWords) (cs ds : List Command) (text : List ℕ) (one : IsPlanText model p cs text) (two : IsPlanText other q ds text)
     → (model ≡ other) × (options_of p ≡ options_of q)
     × (scripted_contents model one.file.task one.file.events one.file.transcript ≡ scripted_contents other two.file.task two.file.events two.file.transcript)
 
--- what is planned is a legal plan file without sessions, whose values are true: an audit accepts it, up to the limit of plan files
+-- what is planned is a legal plan file with the logs of its sessions, whose values are true: an audit accepts it, up to the limit of plan files. Without
+-- commands it has no log
 abbrev pub PlannedFilesAreLegal : Type 0
 PlannedFilesAreLegal =
-    (model : Parts) (p : PlanWords) (text : List ℕ) (one : IsPlanText model p text)
-    → IsLegalFile text one.file.task one.file.events (Some (values_after one.file.task one.file.events)) []
-
--- what is planned with sessions is a legal plan file with their logs, whose values are true
-abbrev pub ScriptPlansAreLegal : Type 0
-ScriptPlansAreLegal =
-    (model : Parts) (p : PlanWords) (cs : List Command) (text : List ℕ) (one : IsScriptPlanText model p cs text)
+    (model : Parts) (p : PlanWords) (cs : List Command) (text : List ℕ) (one : IsPlanText model p cs text)
     → IsLegalFile text one.file.task one.file.events (Some (values_after one.file.task one.file.events)) one.file.transcript
+    × (cs ≡ [] → one.file.transcript ≡ [])
 
 -- ---- trial
 -- what a trial of a number plans: 100 beliefs of depth 10 and 5 stages, with the number as its seed

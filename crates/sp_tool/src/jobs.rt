@@ -1,18 +1,18 @@
 //! The texts of jobs.
 
-ghost use Rattle.std.specs.Prelude.{◌≡◌, ◌≤◌, [], ◌∷◌, map, IfOk, IfErr, MatchResult, Ok, Err, Some, None};
+ghost use Rattle.std.specs.Prelude.{◌≡◌, ◌≤◌, [], ◌∷◌, map, IfOk, IfErr, MatchResult, Ok, Err};
 ghost use Rattle.sp_outside.specs.Folder.{IsLaterFolder};
 ghost use Rattle.sp_choose.specs.Machines.{uniform, sweep};
 ghost use Rattle.sp_words.specs.Jobs.{IsPossible, ArePlanNumbers};
 ghost use Rattle.sp_words.specs.declared.job.Job.TheVariants.{Plan, Check, Show, Gen, Trial};
-ghost use Rattle.sp_tool.specs.Table.{Allows, IsTextFor};
+ghost use Rattle.sp_tool.specs.Table.{Allows, IsPlain, IsTextFor};
 ghost use Rattle.sp_tool.specs.Faults.{Hinders};
 
 use crate::fault::Fault;
 use crate::file::{file_model, model_in};
+use crate::inputs::{PlanInputs, plan_inputs};
 use crate::plans::{act_job, audit_job, migrate_job};
-use crate::scripts::file_script;
-use crate::texts::{check_text, plan_text, script_plan_text, show_text, trial_text};
+use crate::texts::{check_text, plan_text, show_text, trial_text};
 use sp_choose::Chooser;
 use sp_dd::NoMemory;
 use sp_gen::generated;
@@ -20,7 +20,7 @@ use sp_outside::Store;
 use sp_words::{Job, PlanWords};
 use std::alloc::Global;
 
-/// The text of a job.
+/// The text of a job that asks for no further threads.
 pub fn text_for<S: Store>(
     alloc: Global,
     store: &mut S,
@@ -28,6 +28,7 @@ pub fn text_for<S: Store>(
     choosers: Vec<Box<dyn Chooser + Send>>,
 ) -> Result<Vec<u8>, Fault>
     requires job { IsPossible job.now }
+    requires plain { IsPlain job.now }
     requires choosers { map (λ b. machine b) choosers.items ≡ uniform ∷ sweep 0 ∷ [] }
     ensures text { IfOk result (λ t. IsTextFor (S.folder store.old) job.now t.items) }
     ensures fault { IfErr result (λ f. Hinders job.now (S.folder store.old) (S.folder store.new) f) }
@@ -45,7 +46,7 @@ pub fn text_for<S: Store>(
     }
 }
 
-/// The text of a plan, with the sessions of a script where the words name one.
+/// The text of a plan on no further threads.
 fn plan_job<S: Store>(
     alloc: Global,
     store: &mut S,
@@ -53,61 +54,17 @@ fn plan_job<S: Store>(
     choosers: Vec<Box<dyn Chooser + Send>>,
 ) -> Result<Vec<u8>, Fault>
     requires words { ArePlanNumbers words.now }
+    requires alone { words.now.workers ≡ 0 }
     requires choosers { map (λ b. machine b) choosers.items ≡ uniform ∷ sweep 0 ∷ [] }
     ensures text { IfOk result (λ t. IsTextFor (S.folder store.old) (Plan words.now) t.items) }
     ensures fault { IfErr result (λ f. Hinders (Plan words.now) (S.folder store.old) (S.folder store.new) f) }
     ensures later { IsLaterFolder (S.folder store.old) (S.folder store.new) }
 {
-    match &words.sessions {
-        None => plan_alone(alloc, store, words, choosers),
-        Some(script) => plan_with_script(alloc, store, words, script.as_str(), choosers),
-    }
-}
-
-/// The text of a plan without sessions.
-fn plan_alone<S: Store>(
-    alloc: Global,
-    store: &mut S,
-    words: &PlanWords,
-    choosers: Vec<Box<dyn Chooser + Send>>,
-) -> Result<Vec<u8>, Fault>
-    requires words { ArePlanNumbers words.now }
-    requires alone { words.now.sessions ≡ None }
-    requires choosers { map (λ b. machine b) choosers.items ≡ uniform ∷ sweep 0 ∷ [] }
-    ensures text { IfOk result (λ t. IsTextFor (S.folder store.old) (Plan words.now) t.items) }
-    ensures fault { IfErr result (λ f. Hinders (Plan words.now) (S.folder store.old) (S.folder store.new) f) }
-    ensures later { IsLaterFolder (S.folder store.old) (S.folder store.new) }
-{
-    match file_model(alloc, store, words.model.as_str()) {
-        Ok(model) => or_no_memory(plan_text(alloc, model, words, choosers)),
-        Err(fault) => Err(fault),
-    }
-}
-
-/// The text of a plan with the sessions of a script.
-fn plan_with_script<S: Store>(
-    alloc: Global,
-    store: &mut S,
-    words: &PlanWords,
-    script: &str,
-    choosers: Vec<Box<dyn Chooser + Send>>,
-) -> Result<Vec<u8>, Fault>
-    requires words { ArePlanNumbers words.now }
-    requires script { words.now.sessions ≡ Some script.now }
-    requires choosers { map (λ b. machine b) choosers.items ≡ uniform ∷ sweep 0 ∷ [] }
-    ensures text { IfOk result (λ t. IsTextFor (S.folder store.old) (Plan words.now) t.items) }
-    ensures fault { IfErr result (λ f. Hinders (Plan words.now) (S.folder store.old) (S.folder store.new) f) }
-    ensures later { IsLaterFolder (S.folder store.old) (S.folder store.new) }
-{
-    let model = match file_model(alloc, store, words.model.as_str()) {
-        Ok(model) => model,
+    let PlanInputs { model, commands } = match plan_inputs(alloc, store, words) {
+        Ok(inputs) => inputs,
         Err(fault) => return Err(fault),
     };
-    let commands = match file_script(alloc, store, script, &model) {
-        Ok(commands) => commands,
-        Err(fault) => return Err(fault),
-    };
-    let text = script_plan_text(alloc, model, words, choosers, commands)?;
+    let text = plan_text(alloc, model, words, choosers, commands)?;
     Ok(text)
 }
 

@@ -1,8 +1,10 @@
 //! The commands of the program: from words and files to texts and a status.
 #![tactic(auto)]
 
+mod concurrent;
 mod fault;
 mod file;
+mod inputs;
 mod jobs;
 mod laws;
 mod lines;
@@ -12,9 +14,7 @@ mod scripts;
 mod status;
 mod texts;
 
-pub use laws::{
-    files_end_once, one_plan, one_script_plan, planned_files_are_legal, script_plans_are_legal,
-    shown_texts_are_kept,
-};
+pub use concurrent::{run_gated, run_tool};
+pub use laws::{files_end_once, one_plan, planned_files_are_legal, shown_texts_are_kept};
 pub use run::run_plain;
 pub use status::Status;

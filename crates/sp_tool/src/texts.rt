@@ -7,14 +7,14 @@ ghost use Rattle.sp_script.specs.Laws.{IsObservationWithin};
 ghost use Rattle.sp_choose.specs.Machines.{uniform, sweep};
 ghost use Rattle.sp_words.specs.declared.job.PlanWords.{PlanWords};
 ghost use Rattle.sp_words.specs.Jobs.{ArePlanNumbers};
-ghost use Rattle.sp_tool.specs.Texts.{check_line, counts_text, range_text, options_of, chooser_of, trial_lines, trial_front, trial_back, IsShownText, IsPlanText, IsScriptPlanText, IsTrialText};
+ghost use Rattle.sp_tool.specs.Texts.{check_line, counts_text, range_text, options_of, chooser_of, trial_lines, trial_front, trial_back, IsShownText, IsPlanText, IsTrialText};
 
 use crate::fault::Fault;
 use sp_choose::Chooser;
 use sp_dd::NoMemory;
 use sp_model::Model;
 use sp_planner::{Summary, summarize};
-use sp_planning::{plan_file, script_file};
+use sp_planning::script_file;
 use sp_read_back::{canonical_text, functions_law};
 use sp_script::Commands;
 use sp_show::decimal;
@@ -69,27 +69,8 @@ pub fn show_text(alloc: Global, model: &Model) -> Result<Vec<u8>, NoMemory>
     canonical_text(alloc, model)
 }
 
-/// The plan file of the plan that words ask for.
+/// The plan file of the plan that words ask for on no further threads, with the logs of these commands, which are served while it is made.
 pub fn plan_text(
-    alloc: Global,
-    model: Model,
-    words: &PlanWords,
-    choosers: Vec<Box<dyn Chooser + Send>>,
-) -> Result<Vec<u8>, NoMemory>
-    requires words { ArePlanNumbers words.now }
-    requires choosers { map (λ b. machine b) choosers.items ≡ uniform ∷ sweep 0 ∷ [] }
-    ensures { IfOk result (λ text. IsPlanText model words.now text.items) }
-{
-    // what is known of the model and of its functions, and below of the length of the text
-    functions_law(model.parts());
-    let chooser = picked(choosers, words.sweep);
-    let text = plan_file(alloc, model, options(words), chooser)?;
-    let _ = text.len();
-    Ok(text)
-}
-
-/// The plan file of the plan that words ask for, with the sessions of a script that is served while it is made.
-pub fn script_plan_text(
     alloc: Global,
     model: Model,
     words: &PlanWords,
@@ -97,9 +78,10 @@ pub fn script_plan_text(
     commands: Commands,
 ) -> Result<Vec<u8>, NoMemory>
     requires words { ArePlanNumbers words.now }
+    requires alone { words.now.workers ≡ 0 }
     requires commands { All (IsObservationWithin (count_of (sizes_of model.sights))) commands }
     requires choosers { map (λ b. machine b) choosers.items ≡ uniform ∷ sweep 0 ∷ [] }
-    ensures { IfOk result (λ text. IsScriptPlanText model words.now commands text.items) }
+    ensures { IfOk result (λ text. IsPlanText model words.now commands text.items) }
 {
     // what is known of the model and of its functions, and below of the length of the text
     functions_law(model.parts());
@@ -110,7 +92,7 @@ pub fn script_plan_text(
 }
 
 /// The options that words ask for.
-fn options(words: &PlanWords) -> Options
+pub fn options(words: &PlanWords) -> Options
     ensures { result ≡ options_of words.now }
 {
     Options {
@@ -128,7 +110,7 @@ fn options(words: &PlanWords) -> Options
 }
 
 /// The chooser that words ask for; the other one is dropped.
-fn picked(choosers: Vec<Box<dyn Chooser + Send>>, by_turns: bool) -> Box<dyn Chooser + Send>
+pub fn picked(choosers: Vec<Box<dyn Chooser + Send>>, by_turns: bool) -> Box<dyn Chooser + Send>
     requires { map (λ b. machine b) choosers.items ≡ uniform ∷ sweep 0 ∷ [] }
     ensures { machine result ≡ chooser_of by_turns }
 {

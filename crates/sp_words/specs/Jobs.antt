@@ -20,15 +20,15 @@ HasExplore items sweep =
 abbrev pub numbers_of : PlanWords → PlanNumbers
 numbers_of plan = record { beliefs = plan.beliefs; depth = plan.depth; stages = plan.stages; seed = plan.seed; workers = plan.workers }
 
--- the items have the numbers of a plan on no further threads, each once
+-- the items have the numbers of a plan, each once
 pub record HavePlanNumbers (items : List Item) (numbers : PlanNumbers) : Type 0 where
   pub beliefs : OptionHasNumber items (codes "--beliefs") 1 4096 numbers.beliefs
   pub depth : OptionHasNumber items (codes "--depth") 1 4096 numbers.depth
   pub stages : OptionHasNumber items (codes "--stages") 1 1000 numbers.stages
   pub seed : OptionHasNumber items (codes "--seed") 0 (2 ^ 64 - 1) numbers.seed
-  pub workers : OptionHasNumber items (codes "--workers") 0 0 numbers.workers
+  pub workers : OptionHasNumber items (codes "--workers") 0 64 numbers.workers
 
--- the items are those of a plan on no further threads
+-- the items are those of a plan
 pub record IsPlanJob (items : List Item) (plan : PlanWords) : Type 0 where
   pub model : places items ≡ plan.model ∷ []
   pub numbers : HavePlanNumbers items (numbers_of plan)
@@ -101,15 +101,15 @@ abbrev pub GivesFile : List Row → List ℕ → Option (List ℕ) → Type 0
 GivesFile rows id None = first_of id rows ≡ None
 GivesFile rows id (Some file) = (first_of id rows ≡ Some file) × IsPlaced file
 
--- the matches give the numbers of a plan on no further threads
+-- the matches give the numbers of a plan
 pub record GivePlanNumbers (rows : List Row) (numbers : PlanNumbers) : Type 0 where
   pub beliefs : GivesNumber rows (codes "beliefs") 1 4096 numbers.beliefs
   pub depth : GivesNumber rows (codes "depth") 1 4096 numbers.depth
   pub stages : GivesNumber rows (codes "stages") 1 1000 numbers.stages
   pub seed : GivesNumber rows (codes "seed") 0 (2 ^ 64 - 1) numbers.seed
-  pub workers : GivesNumber rows (codes "workers") 0 0 numbers.workers
+  pub workers : GivesNumber rows (codes "workers") 0 64 numbers.workers
 
--- the matches are those of a plan on no further threads
+-- the matches are those of a plan
 pub record GivesPlan (rows : List Row) (plan : PlanWords) : Type 0 where
   pub model : first_of (codes "model") rows ≡ Some plan.model
   pub numbers : GivePlanNumbers rows (numbers_of plan)
@@ -153,6 +153,7 @@ pub record ArePlanNumbers (plan : PlanWords) : Type 0 where
   pub few_depth : plan.depth ≤ 4096
   pub some_stages : 1 ≤ plan.stages
   pub few_stages : plan.stages ≤ 1000
+  pub few_workers : plan.workers ≤ 64
 
 -- the numbers of a job are in their ranges
 abbrev pub IsPossible : Job → Type 0

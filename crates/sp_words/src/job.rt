@@ -72,7 +72,7 @@ pub struct PlanWords {
     pub stages: u64,
     /// The seed of the random words.
     pub seed: u64,
-    /// How many threads plan beside the caller; none, today.
+    /// How many threads plan beside the caller: 0 to 64.
     pub workers: u64,
     /// Whether dominated vectors are dropped after each stage but the last.
     pub prune: bool,

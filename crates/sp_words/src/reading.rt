@@ -140,7 +140,7 @@ fn numbers_in(pieces: &[Piece<'_>]) -> Option<PlanNumbers>
     let depth = number_of(pieces, "--depth", 1, 4096)?;
     let stages = number_of(pieces, "--stages", 1, 1000)?;
     let seed = number_of(pieces, "--seed", 0, u64::MAX)?;
-    let workers = number_of(pieces, "--workers", 0, 0)?;
+    let workers = number_of(pieces, "--workers", 0, 64)?;
     Some(PlanNumbers {
         beliefs,
         depth,

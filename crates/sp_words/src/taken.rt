@@ -193,7 +193,7 @@ fn numbers_at(matches: &ArgMatches<'_>) -> Option<PlanNumbers>
     let depth = number_at(matches, "depth", 1, 4096)?;
     let stages = number_at(matches, "stages", 1, 1000)?;
     let seed = number_at(matches, "seed", 0, u64::MAX)?;
-    let workers = number_at(matches, "workers", 0, 0)?;
+    let workers = number_at(matches, "workers", 0, 64)?;
     Some(PlanNumbers {
         beliefs,
         depth,
