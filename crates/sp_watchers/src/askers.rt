@@ -128,7 +128,7 @@ pub fn watch_askers<R: Threads + Wait + Sync>(
         return Err(Stopped);
     };
     let pace = Pace::new(ANSWERS_FOR_EACH);
-    let (askers, end) = ended_beside::<Brand, Asker, R>(
+    let (askers, end, _book) = ended_beside::<Brand, Asker, R>(
         rt, alloc, book, publisher, first, askers, &pace,
     )?;
     let (backups, kept) = (pace.backups(), pace.was_kept());

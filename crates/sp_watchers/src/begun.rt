@@ -1,6 +1,6 @@
 //! Books before any event, and lists of their editions.
 
-ghost use Rattle.std.specs.Prelude.{◌≡◌, ◌≤◌, All, IfOk, length};
+ghost use Rattle.std.specs.Prelude.{◌≡◌, ◌+◌, ◌≤◌, All, IfOk, OnOk, length};
 ghost use Rattle.sp_core.specs.Opening.{first_parts};
 ghost use Rattle.sp_planner.specs.Planned.{AreOptions};
 ghost use Rattle.sp_workers.specs.Shared.{IsBeginning};
@@ -72,4 +72,28 @@ pub fn begun<R: Wait>(
     let first = Arc::try_clone(edition)?;
     let begun = begin(rt, alloc, first, viewers)?;
     Ok(begun)
+}
+
+/// Publishes the book's edition of that number, which comes next.
+pub fn publish_edition<R: Wait>(
+    rt: &R,
+    book: &Book,
+    publisher: &mut Publisher,
+    number: u64,
+) -> Result<Notice, Stopped>
+    requires beginning { IsBeginning publisher.old book.now }
+    requires next { length publisher.old.editions ≡ number }
+    ensures beginning { OnOk result (IsBeginning publisher.new book.now) }
+    ensures more { OnOk result (length publisher.new.editions ≡ number + 1) }
+    ensures list { OnOk result (publisher.new.list ≡ publisher.old.list) }
+    ensures told { IfOk result (λ told. told.list ≡ publisher.old.list) }
+{
+    // what is known of each book
+    let _ = book.task();
+    let Some(edition) = book.edition(number) else {
+        return Err(Stopped);
+    };
+    let next = Arc::try_clone(edition)?;
+    let told = publisher.publish(rt, next)?;
+    Ok(told)
 }

@@ -14,7 +14,7 @@ use std::sync::Wait;
 use std::thread::Threads;
 
 /// Plans a book by one worker while the steps of the besides are made, publishes what is missing and the end, and gives the besides
-/// with the notice of the end.
+/// with the notice of the end and the book.
 pub fn ended_beside<N: ListName + Send + Sync, B: Beside + Send, R: Threads + Wait + Sync>(
     rt: &R,
     alloc: Global,
@@ -23,7 +23,7 @@ pub fn ended_beside<N: ListName + Send + Sync, B: Beside + Send, R: Threads + Wa
     first: Notice,
     besides: Vec<B>,
     pace: &Pace,
-) -> Result<(Besides<B>, Notice), Stopped>
+) -> Result<(Besides<B>, Notice, Book), Stopped>
     requires opening { book.history ≡ [] }
     requires beginning { IsBeginning publisher book }
     requires named { IsOf N.list N.first publisher }
@@ -38,7 +38,7 @@ pub fn ended_beside<N: ListName + Send + Sync, B: Beside + Send, R: Threads + Wa
         besides,
     } = plan_beside::<N, Pace, B, R>(rt, alloc, book, publisher, first, besides, 1, pace);
     match ended(rt, alloc, book, publisher) {
-        Ok(end) => Ok((besides, end)),
+        Ok((end, book)) => Ok((besides, end, book)),
         Err(stopped) => Err(stopped),
     }
 }
@@ -49,15 +49,16 @@ fn ended<R: Wait>(
     alloc: Global,
     book: Book,
     publisher: Publisher,
-) -> Result<Notice, Stopped>
+) -> Result<(Notice, Book), Stopped>
     requires { IsBeginning publisher book }
-    ensures { IfOk result (λ end. (end.list ≡ publisher.list) × (end.ended ≡ true)) }
+    ensures { IfOk result (λ made. (made.0.list ≡ publisher.list) × (made.0.ended ≡ true)) }
 {
     let mut book = book;
     let mut publisher = publisher;
     let end = end_of(rt, alloc, &mut book, &mut publisher);
     publisher.close(rt);
-    end
+    let end = end?;
+    Ok((end, book))
 }
 
 /// Plans what is left, and publishes it and the end.

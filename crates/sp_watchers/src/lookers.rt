@@ -7,8 +7,8 @@ ghost use Rattle.sp_publish.specs.Published.{ListGoesOn};
 use crate::begun::begun;
 use crate::ended::ended_beside;
 use crate::pace::{Pace, TURNS};
+use crate::seen::Seen;
 use crate::stopped::Stopped;
-use crate::tally::Tally;
 use sp_core::Book;
 use sp_dd::NoMemory;
 use sp_publish::{Beside, Notice, Viewer};
@@ -20,50 +20,47 @@ use std::thread;
 use std::thread::Threads;
 
 /// How many look.
-const LOOKERS: u64 = 4;
+const LOOKERS: u64 = 7;
 
 /// How often each of them looks.
-const LOOKS: u64 = 25_000;
+const LOOKS: u64 = 100_000;
 
-/// After so many looks each takes the newest notice, and waits for editions that are newer by `NEWER`.
-const ROUND: u64 = 1_000;
+/// After so many looks each waits for an edition that is newer by one.
+const ROUND: u64 = 100;
 
-const NEWER: u64 = 40;
+/// After so many looks each takes the newest notice.
+const NOTICE: u64 = 1_000;
 
-/// How many looks are made for each backup: fewer than all make together by the time when each waits for its edition, so that nobody
+/// How many looks are made for each backup: no more than all make together by the time when each waits for its edition, so that nobody
 /// waits for ever; and so many that the planner can't be far ahead of any of them.
-const LOOKS_FOR_EACH: u64 = 99;
+const LOOKS_FOR_EACH: u64 = 700;
 
-/// How often each sees a newer edition at least, however the threads run.
-const RISES: u64 = 20;
+/// How often each sees an edition that is newer than it was told, at least, however the threads run.
+const RISES: u64 = 100;
 
 /// Looks at a list so many times.
 #[derive(Drop)]
 pub struct Looker {
     viewer: Viewer,
     left: u64,
-    tally: Tally,
+    seen: Seen,
 }
 
 impl Looker {
-    fn new(viewer: Viewer) -> Looker
+    fn new(alloc: Global, viewer: Viewer) -> Looker
         ensures { result.viewer ≡ viewer }
     {
         Looker {
             viewer,
             left: LOOKS,
-            tally: Tally::new(),
+            seen: Seen::new(alloc),
         }
     }
 
-    /// The number that the next look waits for: `NEWER` more with each round, 0 within a round.
+    /// The number that the next look waits for: one more with each round, 0 within a round.
     fn awaited(&self) -> u64 {
         let made = LOOKS.saturating_sub(self.left);
-        if made % ROUND == 0 {
-            (made / ROUND).wrapping_mul(NEWER)
-        } else {
-            0
-        }
+        if made % ROUND == 0 { made / ROUND } else { 0 }
     }
 }
 
@@ -83,26 +80,27 @@ impl Beside for Looker {
     }
 
     fn wants_notice(&self) -> bool {
-        self.left % ROUND == 0
+        self.left % NOTICE == 0
     }
 
     fn step(&mut self, told: &Notice) -> Result<(), NoMemory> {
-        let awaited = self.awaited();
+        let (awaited, is_newest) = (self.awaited(), self.wants_notice());
+        self.seen.compare(told.number(), is_newest);
         self.viewer.learn(told)?;
-        look_for(&mut self.viewer, &mut self.tally, told.number(), awaited)?;
+        look_for(&mut self.viewer, &mut self.seen, told.number(), awaited)?;
         self.left -= 1;
         Ok(())
     }
 }
 
-/// Looks until an edition of the awaited number comes, and notes the number of each, which has to be at least the one told.
-fn look_for(viewer: &mut Viewer, tally: &mut Tally, told: u64, awaited: u64) -> Result<(), NoMemory>
+/// Looks until an edition of the awaited number comes, and notes each, which has to be at least the one told.
+fn look_for(viewer: &mut Viewer, seen: &mut Seen, told: u64, awaited: u64) -> Result<(), NoMemory>
     ensures { ListGoesOn viewer.old viewer.new }
 {
     for _ in 0..TURNS {
         let newest = viewer.latest()?;
         let number = newest.number();
-        tally.note(number, told);
+        seen.note(newest, told)?;
         if number >= awaited {
             return Ok(());
         }
@@ -118,7 +116,7 @@ fn lookers_of(alloc: Global, viewers: Vec<Viewer>, first: &Notice) -> Result<Vec
 {
     let mut lookers = Vec::new(alloc);
     for viewer in viewers {
-        lookers.push(Looker::new(viewer))?;
+        lookers.push(Looker::new(alloc, viewer))?;
     }
     Ok(lookers)
 }
@@ -138,7 +136,7 @@ pub fn watch_lookers<R: Threads + Wait + Sync>(
         return Err(Stopped);
     };
     let pace = Pace::new(LOOKS_FOR_EACH);
-    let (lookers, end) = ended_beside::<Brand, Looker, R>(
+    let (lookers, end, book) = ended_beside::<Brand, Looker, R>(
         rt, alloc, book, publisher, first, lookers, &pace,
     )?;
     let (backups, kept) = (pace.backups(), pace.was_kept());
@@ -146,35 +144,39 @@ pub fn watch_lookers<R: Threads + Wait + Sync>(
         text,
         "{backups} backups, each after the steps before it: {kept}"
     )?;
-    push_lookers(text, lookers, &end)
+    push_lookers(text, lookers, &end, &book)
 }
 
 /// Adds a line for each, which then learns the end.
-fn push_lookers(text: &mut String, lookers: Besides<Looker>, end: &Notice) -> Result<(), Stopped>
+fn push_lookers(
+    text: &mut String,
+    lookers: Besides<Looker>,
+    end: &Notice,
+    book: &Book,
+) -> Result<(), Stopped>
     requires { All (λ l. l.viewer.list ≡ end.now.list) lookers }
 {
     for looker in lookers.into_vec() {
-        push_looker(text, looker, end)?;
+        push_looker(text, looker, end, book)?;
     }
     Ok(())
 }
 
-fn push_looker(text: &mut String, looker: Looker, end: &Notice) -> Result<(), Stopped>
+fn push_looker(text: &mut String, looker: Looker, end: &Notice, book: &Book) -> Result<(), Stopped>
     requires { looker.viewer.list ≡ end.now.list }
 {
-    let Looker {
-        viewer,
-        left,
-        tally,
-    } = looker;
-    let mut viewer = viewer;
+    let Looker { viewer, left, seen } = looker;
+    let (mut viewer, mut seen) = (viewer, seen);
+    let unended = seen.tally();
     viewer.learn(end)?;
     let last = viewer.latest()?;
     let (looks, number) = (LOOKS.saturating_sub(left), last.number());
-    let (as_new, often) = (!tally.fell, tally.rises >= RISES);
+    seen.note(last, end.number())?;
+    let (as_new, often) = (!seen.tally().fell, unended.rises >= RISES);
+    let published = seen.is_of(book);
     writeln!(
         text,
-        "{looks} looks, each as new as those before: {as_new}, newer ones 20 times or more: {often}, at the end: {number}"
+        "{looks} looks, each as new as those before: {as_new}, each at a published edition: {published}, newer than told 100 times or more: {often}, at the end: {number}"
     )?;
     Ok(())
 }

@@ -4,16 +4,19 @@
 
 mod askers;
 mod begun;
+mod calls;
 mod desks;
 mod ended;
 mod lookers;
 mod pace;
 mod rows;
+mod seen;
 mod stopped;
 mod tally;
 
 use askers::watch_askers;
 use begun::opened;
+use calls::push_calls;
 use lookers::watch_lookers;
 use rows::push_rows;
 use sp_outside::{DirStore, StdSink, read_whole, write_whole};
@@ -38,6 +41,7 @@ fn push_all<R: Threads + Wait + Sync>(
     source: &[u8],
     text: &mut String,
 ) -> Result<(), Stopped> {
+    push_calls(rt, alloc, opened(alloc, source, 2)?, text)?;
     push_rows(rt, alloc, opened(alloc, source, 1)?, text)?;
     watch_lookers(rt, alloc, opened(alloc, source, 1000)?, text)?;
     watch_askers(rt, alloc, opened(alloc, source, 200)?, text)

@@ -5,7 +5,7 @@ ghost use Rattle.std.specs.Arc.{arc_value};
 ghost use Rattle.sp_publish.specs.Published.{IsOfTask};
 ghost use Rattle.sp_workers.specs.Shared.{IsBeginning};
 
-use crate::begun::begun;
+use crate::begun::{begun, publish_edition};
 use crate::desks::{push_session, push_stranger};
 use crate::stopped::Stopped;
 use sp_core::Book;
@@ -46,13 +46,7 @@ fn published<R: Wait>(
     ensures end { IfOk result (λ made. made.1.list ≡ publisher.old.list) }
     ensures ended { IfOk result (λ made. made.1.ended ≡ true) }
 {
-    // what is known of each book
-    let _ = book.task();
-    let Some(edition) = book.edition(1) else {
-        return Err(Stopped);
-    };
-    let next = Arc::try_clone(edition)?;
-    let told = publisher.publish(rt, next)?;
+    let told = publish_edition(rt, book, publisher, 1)?;
     let end = publisher.end(rt)?;
     Ok((told, end))
 }
@@ -100,7 +94,7 @@ fn push_seen(
 }
 
 /// One of the viewers, which know what the first notice tells.
-fn next_of(viewers: &mut Vec<Viewer>, first: &Notice) -> Result<Viewer, Stopped>
+pub fn next_of(viewers: &mut Vec<Viewer>, first: &Notice) -> Result<Viewer, Stopped>
     requires { All (λ v. v ≡ first.now) viewers.old.items }
     ensures rest { All (λ v. v ≡ first.now) viewers.new.items }
     ensures viewer { IfOk result (λ v. v ≡ first.now) }

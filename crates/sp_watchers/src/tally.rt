@@ -7,7 +7,7 @@ pub struct Tally {
     pub last: u64,
     /// Whether one was less than the one before it, or than it had to be.
     pub fell: bool,
-    /// How many were greater than the one before.
+    /// How many were greater than the one before, and than what was told.
     pub rises: u64,
 }
 
@@ -26,7 +26,7 @@ impl Tally {
         if number < self.last || number < told {
             self.fell = true;
         }
-        if number > self.last {
+        if number > self.last && number > told {
             self.rises = self.rises.wrapping_add(1);
         }
         self.last = number;
