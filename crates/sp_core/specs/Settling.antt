@@ -1,17 +1,19 @@
 -- What a settle does to a book.
-use Rattle.std.specs.Prelude.{◌≡◌, List, ◌∷◌, ◌++◌, length, replicate, slice_get, Bool, false, cond, MatchBool, Some, option_map}
+use Rattle.std.specs.Prelude.{◌≡◌, ℤ, List, ◌∷◌, ◌++◌, length, replicate, slice_get, Bool, false, cond, MatchBool, Some, option_map}
 use Rattle.std.specs.Arc.{arc_value}
 use Rattle.sp_theory.specs.Values.{greatest_member}
 use Rattle.sp_theory.specs.Book.{Event, settle, settled_member, after_event}
 use Rattle.sp_theory.specs.OneThread.{all_improved, due_events}
-use Rattle.sp_value.specs.Tasks.{task_of}
+use Rattle.sp_value.specs.Tasks.{TaskParts, task_of}
 use Rattle.sp_value.specs.Editions.{EditionParts}
 use Rattle.sp_value.specs.Candidates.{CandidateParts}
 use Rattle.sp_core.specs.declared.answers.Settled.{Settled}
 use Rattle.sp_core.specs.declared.answers.Settled.TheVariants.{Added, Kept, Late, Over}
 use Rattle.sp_core.specs.declared.answers.SettleError.{SettleError}
 use Rattle.sp_core.specs.declared.answers.SettleError.TheVariants.{NotOurs, NoMemory}
-use Rattle.sp_ledger.specs.Accounts.{by_values}
+use Rattle.sp_dd.specs.Func.{Func}
+use Rattle.sp_model.specs.Problem.{vector_of}
+use Rattle.sp_ledger.specs.Accounts.{AreWorths, by_values}
 use Rattle.sp_core.specs.Books.{BookParts, state_of}
 
 -- the edition is one of the book's
@@ -51,6 +53,11 @@ IsSettled b c answer d =
     MatchBool (state_of b).done
     ((answer ≡ Over) × (d ≡ b))
     (IsOurs b c.base × (answer ≡ answer_for b c) × IsSettledBy b c d)
+
+-- what a vector is worth at each sampled belief of a task
+pub record AreSampledWorths (t : TaskParts) (vector : Func) (worths : List ℤ) : Type 0 where
+  pub count : length worths ≡ t.options.beliefs
+  pub each : AreWorths (task_of t) (vector_of t.model vector) worths
 
 -- a refusal of the candidate, which comes only where the run isn't over
 abbrev pub RefusesSettle : BookParts → CandidateParts → SettleError → Type 0

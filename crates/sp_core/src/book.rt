@@ -10,6 +10,7 @@ use crate::answers::{PruneError, Pruned, SettleError, Settled};
 use crate::ledger::Ledger;
 use crate::picking::pick;
 use sp_dd::{NoMemory, Pairs};
+use sp_ledger::ListedTask;
 use sp_model::Sequence;
 use sp_value::{Candidate, Edition, Run, Task};
 use std::alloc::Global;
@@ -40,7 +41,7 @@ impl Book {
     ghost use Rattle.sp_core.specs.Marks.{marks_of};
     ghost use Rattle.sp_core.specs.Opening.{first_parts};
     ghost use Rattle.sp_core.specs.Pruning.{AreDominatedIn, IsPruned, RefusesPrune};
-    ghost use Rattle.sp_core.specs.Settling.{IsOurs, IsSettled, RefusesSettle};
+    ghost use Rattle.sp_core.specs.Settling.{AreSampledWorths, IsOurs, IsSettled, RefusesSettle};
 
     /// The book of a task before any event. Later calls take their memory from `alloc`.
     pub fn begin(alloc: Global, task: Arc<Task>) -> Result<Book, NoMemory>
@@ -56,6 +57,13 @@ impl Book {
         ensures known { IsBook self.now }
     {
         self.ledger.task.task()
+    }
+
+    /// The task with the lists by which vectors are weighed. Takes no memory.
+    pub fn listed_task(&self) -> &ListedTask
+        ensures { result.now ≡ self.now.task }
+    {
+        &self.ledger.task
     }
 
     /// Whether the run is over. Takes no memory.
@@ -127,7 +135,23 @@ impl Book {
         ensures err { IfErr result (RefusesSettle self.old candidate) }
         ensures unchanged { OnErr result (self.new ≡ self.old) }
     {
-        self.ledger.settle_ours(candidate)
+        self.ledger.settle_ours(candidate, None)
+    }
+
+    /// `settle_ours` for a candidate whose vector was weighed at the sampled beliefs before, by `sp_ledger::weigh`: it isn't weighed
+    /// again.
+    pub fn settle_weighed(
+        &mut self,
+        candidate: Candidate,
+        worths: &[i128],
+    ) -> Result<Settled, SettleError>
+        requires ours { IsOurs self.old candidate.base }
+        requires worths { AreSampledWorths self.old.task candidate.vector worths.now }
+        ensures ok { IfOk result (λ answer. IsSettled self.old candidate answer self.new) }
+        ensures err { IfErr result (RefusesSettle self.old candidate) }
+        ensures unchanged { OnErr result (self.new ≡ self.old) }
+    {
+        self.ledger.settle_ours(candidate, Some(worths))
     }
 
     /// Of each pair of ids the first leaves the latest edition, in order, where both are still present: one step of the book, or

@@ -21,13 +21,13 @@ const ROOM: u64 = 1 << 20;
 /// about as much as so many states.
 const STATES_FOR_A_NODE: usize = 32;
 
-/// A task, and its sampled beliefs of few states as lists, which are made once for all vectors that are weighed. Contracts see
-/// the task.
+/// A task, and its sampled beliefs of few states as lists, which are made once for all vectors that are weighed and for all copies.
+/// Contracts see the task.
 #[derive(Drop)]
 pub struct ListedTask {
     task: Arc<Task>,
     /// One for each sampled belief: none where the belief is too wide, or the model too large.
-    lists: Vec<Option<SupportList>>,
+    lists: Arc<Vec<Option<SupportList>>>,
 }
 
 impl Model for ListedTask {
@@ -39,7 +39,7 @@ impl Model for ListedTask {
 
     ghost view = { λ l. arc_value l.task };
 
-    ghost invariant = { λ l. AreLists (arc_value l.task) l.lists.items };
+    ghost invariant = { λ l. AreLists (arc_value l.task) (arc_value l.lists).items };
 }
 
 impl ListedTask {
@@ -48,6 +48,16 @@ impl ListedTask {
         ensures { IfOk result (λ l. l ≡ arc_value task) }
     {
         let lists = lists_of(alloc, &task)?;
+        let lists = Arc::new(alloc, lists).map_err(|_| NoMemory)?;
+        Ok(ListedTask { task, lists })
+    }
+
+    /// The same task with the same lists, shared. Takes no memory.
+    pub fn shared(&self) -> Result<ListedTask, NoMemory>
+        ensures { IfOk result (λ l. l ≡ self.now) }
+    {
+        let task = Arc::try_clone(&self.task)?;
+        let lists = Arc::try_clone(&self.lists)?;
         Ok(ListedTask { task, lists })
     }
 

@@ -7,6 +7,7 @@ ghost use Rattle.sp_theory.specs.OneThread.{picked};
 ghost use Rattle.sp_value.specs.Tasks.{task_of};
 ghost use Rattle.sp_core.specs.Marks.{marks_of};
 ghost use Rattle.sp_core.specs.Pruning.{AreDominatedIn};
+ghost use Rattle.sp_core.specs.Settling.{AreSampledWorths};
 ghost use Rattle.sp_publish.specs.Published.{ListGoesOn, newest_in};
 ghost use Rattle.sp_workers.specs.Shared.{AreShared, IsBeginning};
 ghost use Rattle.sp_workers.specs.Sections.{HasSameEvents, IsLook, IsPrunedFor, IsSettledFor, IsWorkOf, MayPrune, MaySettle};
@@ -16,6 +17,7 @@ use crate::sections::{Look, Work, is_over, prune_on, settle_on, take_work};
 use sp_backup::Projections;
 use sp_core::{Book, Pruned, Settled};
 use sp_dd::{NoMemory, Pairs};
+use sp_ledger::ListedTask;
 use sp_publish::{ListName, Notice, Publisher};
 use sp_value::{Candidate, Edition};
 use std::alloc::Global;
@@ -128,18 +130,27 @@ impl<N: ListName, R: Wait + Drop> Locked<N, R> {
         take_work(&mut self.book, seen, word)
     }
 
-    /// Settles a candidate that was made on the newest edition seen, and publishes each edition of the book that isn't published yet,
-    /// before and after.
+    /// The task with the lists by which vectors are weighed.
+    pub fn listed_task(&self) -> Result<ListedTask, NoMemory>
+        ensures { IfOk result (λ l. l ≡ N.first.task) }
+    {
+        self.book.listed_task().shared()
+    }
+
+    /// Settles a candidate that was made on the newest edition seen, with what its vector is worth at the sampled beliefs, and
+    /// publishes each edition of the book that isn't published yet, before and after.
     pub fn settle(
         &mut self,
         alloc: Global,
         seen: &Notice,
         candidate: Candidate,
+        worths: &[i128],
         kept: &mut Projections,
     ) -> Result<Settled, NoMemory>
         requires list { seen.now.list ≡ N.list }
         requires base { newest_in seen.now ≡ Some candidate.base }
         requires task { candidate.base.task ≡ N.first.task }
+        requires worths { AreSampledWorths N.first.task candidate.vector worths.now }
         ensures ok { IfOk result (λ answer. IsSettledFor self.old.book candidate answer self.new.book) }
         ensures published { OnOk result (self.new.list.editions ≡ self.new.book.editions) }
         ensures event { MaySettle self.old.book candidate self.new.book }
@@ -147,7 +158,7 @@ impl<N: ListName, R: Wait + Drop> Locked<N, R> {
         ensures working { self.new.working ≡ self.old.working }
     {
         self.publish()?;
-        let answer = self.settle_alone(alloc, seen, candidate, kept)?;
+        let answer = self.settle_alone(alloc, seen, candidate, worths, kept)?;
         self.publish()?;
         Ok(answer)
     }
@@ -157,12 +168,14 @@ impl<N: ListName, R: Wait + Drop> Locked<N, R> {
         alloc: Global,
         seen: &Notice,
         candidate: Candidate,
+        worths: &[i128],
         kept: &mut Projections,
     ) -> Result<Settled, NoMemory>
         requires whole { self.old.list.editions ≡ self.old.book.editions }
         requires list { seen.now.list ≡ N.list }
         requires base { newest_in seen.now ≡ Some candidate.base }
         requires task { candidate.base.task ≡ N.first.task }
+        requires worths { AreSampledWorths N.first.task candidate.vector worths.now }
         ensures ok { IfOk result (λ answer. IsSettledFor self.old.book candidate answer self.new.book) }
         ensures err { OnErr result (self.new.book ≡ self.old.book) }
         ensures list { self.new.list ≡ self.old.list }
@@ -174,6 +187,7 @@ impl<N: ListName, R: Wait + Drop> Locked<N, R> {
             self.held.publisher.newest(),
             seen,
             candidate,
+            worths,
             kept,
         )
     }

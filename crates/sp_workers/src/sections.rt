@@ -7,7 +7,7 @@ ghost use Rattle.sp_theory.specs.OneThread.{picked};
 ghost use Rattle.sp_value.specs.Tasks.{task_of};
 ghost use Rattle.sp_core.specs.Marks.{marks_of};
 ghost use Rattle.sp_core.specs.Pruning.{AreDominatedIn, IsPruned};
-ghost use Rattle.sp_core.specs.Settling.{IsOurs, IsSettled};
+ghost use Rattle.sp_core.specs.Settling.{AreSampledWorths, IsOurs, IsSettled};
 ghost use Rattle.sp_value.specs.Editions.{EditionParts};
 ghost use Rattle.sp_publish.specs.Published.{newest_in};
 ghost use Rattle.sp_planner.specs.Turns.{IsLaterBook};
@@ -73,33 +73,57 @@ fn is_ours(book: &Book, published: &Notice, seen: &Notice) -> bool
     seen.number() <= published.number()
 }
 
-/// Settles a candidate of the book's task that was made on the newest edition seen. Where that isn't one of the book's editions,
-/// the backup at its belief is made anew on the latest one.
+/// Settles a candidate of the book's task that was made on the newest edition seen, and weighed at the sampled beliefs. Where that
+/// isn't one of the book's editions, the backup at its belief is made anew on the latest one.
 pub(crate) fn settle_on(
     alloc: Global,
     book: &mut Book,
     published: &Notice,
     seen: &Notice,
     candidate: Candidate,
+    worths: &[i128],
     kept: &mut Projections,
 ) -> Result<Settled, NoMemory>
     requires list { published.now.list ≡ seen.now.list }
     requires whole { published.now.editions ≡ book.old.editions }
     requires base { newest_in seen.now ≡ Some candidate.base }
     requires task { candidate.base.task ≡ book.old.task }
+    requires worths { AreSampledWorths book.old.task candidate.vector worths.now }
     ensures known { IsBook book.new }
     ensures later { IsLaterBook book.old book.new }
     ensures ok { IfOk result (λ answer. IsSettledFor book.old candidate answer book.new) }
     ensures unchanged { OnErr result (book.new ≡ book.old) }
 {
     if is_ours(book, published, seen) {
-        return settle_ours(book, candidate);
+        return settle_weighed(book, candidate, worths);
     }
     let belief = candidate.belief();
     // what is known of each candidate
     let _ = candidate.vector();
     let answer = settle_anew(alloc, book, belief, kept)?;
     Ok(answer)
+}
+
+/// Settles a candidate that was made on an edition of the book, and weighed at the sampled beliefs.
+fn settle_weighed(
+    book: &mut Book,
+    candidate: Candidate,
+    worths: &[i128],
+) -> Result<Settled, NoMemory>
+    requires ours { IsOurs book.old candidate.base }
+    requires worths { AreSampledWorths book.old.task candidate.vector worths.now }
+    ensures known { IsBook book.new }
+    ensures later { IsLaterBook book.old book.new }
+    ensures ok { IfOk result (λ answer. IsSettled book.old candidate answer book.new) }
+    ensures unchanged { OnErr result (book.new ≡ book.old) }
+{
+    let settled = book.settle_weighed(candidate, worths);
+    // what is known of each book
+    let _ = book.task();
+    match settled {
+        Ok(answer) => Ok(answer),
+        Err(_) => Err(NoMemory),
+    }
 }
 
 /// Settles a candidate that was made on an edition of the book.

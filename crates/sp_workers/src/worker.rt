@@ -1,6 +1,8 @@
 //! One worker.
 
-ghost use Rattle.std.specs.Prelude.{◌≡◌};
+ghost use Rattle.std.specs.Prelude.{◌≡◌, ◌<◌, IfOk, length};
+ghost use Rattle.std.specs.Arc.{arc_value};
+ghost use Rattle.sp_core.specs.Settling.{AreSampledWorths};
 
 use crate::gate::Gate;
 use crate::locked::Locked;
@@ -8,9 +10,12 @@ use rand_core::{Rng, SeedableRng};
 use rand_pcg::Lcg128Xsl64;
 use sp_backup::{Projections, point_backup};
 use sp_dd::NoMemory;
+use sp_ledger::{ListedTask, weigh, zero_values};
 use sp_publish::ListName;
+use sp_value::{Candidate, Edition};
 use std::alloc::Global;
-use std::sync::{Mutex, Wait};
+use std::marker::PhantomData;
+use std::sync::{Arc, Mutex, Wait};
 
 /// How many projections of vectors a worker may keep.
 const KEPT: u64 = 1024;
@@ -27,6 +32,55 @@ pub(crate) fn work<N: ListName, G: Gate, R: Wait, L: Wait + Drop>(
     locked.lock(rt).stop();
 }
 
+/// What a worker has for itself, so that it makes and weighs a backup while others hold the lock.
+#[derive(Drop)]
+struct Own<N: ListName> {
+    kept: Projections,
+    listed: ListedTask,
+    /// What the vector of the last backup is worth at each sampled belief.
+    worths: Vec<i128>,
+    of: PhantomData<N>,
+    ghost task: { listed ≡ N.first.task },
+    ghost room: { length worths.items ≡ N.first.task.options.beliefs },
+}
+
+impl<N: ListName> Own<N> {
+    fn new(alloc: Global, listed: ListedTask) -> Result<Own<N>, NoMemory>
+        requires { listed ≡ N.first.task }
+    {
+        let kept = Projections::new(alloc, KEPT)?;
+        let worths = zero_values(alloc, listed.task().options().beliefs as usize)?;
+        Ok(Own {
+            kept,
+            listed,
+            worths,
+            of: PhantomData,
+        })
+    }
+
+    /// The backup at a belief, whose vector is weighed then.
+    fn backup(
+        &mut self,
+        alloc: Global,
+        base: &Arc<Edition>,
+        belief: u64,
+    ) -> Result<Candidate, NoMemory>
+        requires belief { belief < (arc_value base.now).task.options.beliefs }
+        requires task { (arc_value base.now).task ≡ N.first.task }
+        ensures base { IfOk result (λ c. c.base ≡ arc_value base.now) }
+        ensures worths { IfOk result (λ c. AreSampledWorths N.first.task c.vector self.new.worths.items) }
+    {
+        let candidate = point_backup(alloc, base, belief, &mut self.kept)?;
+        weigh(
+            alloc,
+            &self.listed,
+            candidate.vector(),
+            self.worths.as_mut_slice(),
+        )?;
+        Ok(candidate)
+    }
+}
+
 /// Turns until the run is over.
 fn take_turns<N: ListName, G: Gate, R: Wait, L: Wait + Drop>(
     rt: &R,
@@ -35,10 +89,11 @@ fn take_turns<N: ListName, G: Gate, R: Wait, L: Wait + Drop>(
     gate: &G,
     seed: u64,
 ) -> Result<(), NoMemory> {
-    let mut kept = Projections::new(alloc, KEPT)?;
+    let listed = locked.lock(rt).listed_task()?;
+    let mut own = Own::<N>::new(alloc, listed)?;
     let mut words = Lcg128Xsl64::seed_from_u64(seed);
     for _ in rt.forever() {
-        if !turn(rt, alloc, locked, gate, &mut kept, words.next_u64())? {
+        if !turn(rt, alloc, locked, gate, &mut own, words.next_u64())? {
             break;
         }
     }
@@ -51,7 +106,7 @@ fn turn<N: ListName, G: Gate, R: Wait, L: Wait + Drop>(
     alloc: Global,
     locked: &Mutex<Locked<N, L>>,
     gate: &G,
-    kept: &mut Projections,
+    own: &mut Own<N>,
     word: u64,
 ) -> Result<bool, NoMemory> {
     let taken = locked.lock(rt).take(word)?;
@@ -59,7 +114,9 @@ fn turn<N: ListName, G: Gate, R: Wait, L: Wait + Drop>(
         return Ok(false);
     };
     gate.before_backup(work.belief);
-    let candidate = point_backup(alloc, work.seen.edition(), work.belief, kept)?;
-    locked.lock(rt).settle(alloc, &work.seen, candidate, kept)?;
+    let candidate = own.backup(alloc, work.seen.edition(), work.belief)?;
+    locked
+        .lock(rt)
+        .settle(alloc, &work.seen, candidate, &own.worths, &mut own.kept)?;
     Ok(true)
 }

@@ -4,8 +4,8 @@ use Rattle.sp_core.specs.Settling.{IsOurs}
 use Rattle.sp_workers.specs.Sections.{IsSettledAnew}
 use Rattle.sp_workers.proofs.sections.settle_on.Goals as goal
 
-pub settle_ours-requires : goal.settle_ours-requires
-settle_ours-requires c =
+pub settle_weighed-requires-clause-ours : goal.settle_weighed-requires-clause-ours
+settle_weighed-requires-clause-ours c =
     when_true (IsOurs c.args.book.now c.args.candidate.base) (¬ IsOurs c.args.book.now c.args.candidate.base) c.if-is_ours.true (c.is_ours.ensures c.args.candidate.base c.requires.base)
 
 pub returns-clause-ok : goal.returns-clause-ok
