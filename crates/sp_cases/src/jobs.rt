@@ -44,6 +44,8 @@ fn text_of(alloc: Global, job: &Job) -> Result<String, AllocError> {
         Job::Act { plan, script } => {
             format!(in alloc; "act {} {}", plan.as_str(), script.as_str())
         }
+        Job::Help => "help".to_string(alloc),
+        Job::Version => "version".to_string(alloc),
     }
 }
 

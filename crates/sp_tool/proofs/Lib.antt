@@ -4,3 +4,4 @@ pub mod SecondFiles
 pub mod LineLemmas
 pub mod Pushed
 pub mod PlanTexts
+pub mod HelpLemmas

@@ -9,7 +9,7 @@ use Rattle.sp_outside.specs.Bytes.{Appended, AppendedPart}
 use Rattle.sp_gen.specs.Models.{generated_text}
 use Rattle.sp_model.specs.declared.parts.Parts.{Parts}
 use Rattle.sp_words.specs.declared.job.Job.{Job}
-use Rattle.sp_words.specs.declared.job.Job.TheVariants.{Plan, Check, Show, Gen, Trial, Audit, Migrate, Act}
+use Rattle.sp_words.specs.declared.job.Job.TheVariants.{Plan, Check, Show, Gen, Trial, Audit, Migrate, Act, Help, Version}
 use Rattle.sp_words.specs.declared.job.PlanWords.{PlanWords}
 use Rattle.sp_words.specs.Jobs.{Asks, IsPossible}
 use Rattle.sp_tool.specs.Inputs.{Input, model_file, script_file, name_of, limit_of, TellsModel, TellsNone, IsAccepted, Ending, all_accepted, last_refused, last_forbidden, Ends}
@@ -83,6 +83,10 @@ granted (Act name script) (source ∷ (commands ∷ [])) text may =
     let told = may.1.1 in
     inl ((may.0, plan), inl ((told.0, (plan.task.model, (plan.task, (plan.events, (plan.values, (plan.transcript, plan.legal.file, refl)))), (told.1.0, told.1.1))), tt))
 granted (Act name script) (source ∷ (commands ∷ (next ∷ more))) text may = elim may [ ]
+granted Help [] text may = tt
+granted Help (source ∷ more) text may = elim may [ ]
+granted Version [] text may = tt
+granted Version (source ∷ more) text may = elim may [ ]
 
 -- the law
 pub files_end_once : FilesEndOnce

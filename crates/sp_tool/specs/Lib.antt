@@ -1,5 +1,6 @@
 pub mod Statuses
 pub mod Lines
+pub mod Help
 pub mod Texts
 pub mod Kinds
 pub mod Inputs

@@ -4,8 +4,7 @@ use Rattle.std.specs.Fmt.{decimal}
 
 -- the words are those of no command
 abbrev pub usage_line : List ℕ
-usage_line =
-    codes "perseus: usage: perseus plan MODEL --beliefs N --depth D --stages N --seed S --workers N [--prune] [--explore uniform|sweep] [--sessions SCRIPT], perseus check MODEL, perseus show MODEL, perseus gen NUMBER, perseus trial NUMBER, perseus audit PLAN, perseus migrate PLAN, or perseus act PLAN SCRIPT\n"
+usage_line = codes "perseus: usage: try perseus --help\n"
 
 abbrev pub no_memory_line : List ℕ
 no_memory_line = codes "perseus: out of memory\n"

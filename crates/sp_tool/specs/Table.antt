@@ -14,9 +14,10 @@ use Rattle.sp_judging.specs.PlanFiles.{IsLegalPlan, IsAuditText, IsMigratedText}
 use Rattle.sp_judging.specs.ActTexts.{IsActText}
 use Rattle.sp_words.specs.declared.job.PlanWords.{PlanWords}
 use Rattle.sp_words.specs.declared.job.Job.{Job}
-use Rattle.sp_words.specs.declared.job.Job.TheVariants.{Plan, Check, Show, Gen, Trial, Audit, Migrate, Act}
+use Rattle.sp_words.specs.declared.job.Job.TheVariants.{Plan, Check, Show, Gen, Trial, Audit, Migrate, Act, Help, Version}
 use Rattle.sp_words.specs.Jobs.{Asks, ArePlanNumbers}
 use Rattle.sp_tool.specs.Lines.{usage_line, no_memory_line, cannot_write_line, cannot_read_line}
+use Rattle.sp_tool.specs.Help.{help_text, version_text}
 use Rattle.sp_tool.specs.Inputs.{Input, model_file, plan_file, script_file, name_of, model_limit, plan_limit, script_limit, all_accepted, last_refused, last_forbidden, next_unread, Ends}
 use Rattle.sp_tool.specs.Texts.{check_line, IsShownText, IsPlanText, IsTrialText}
 use Rattle.sp_tool.specs.declared.status.Status.{Status}
@@ -32,6 +33,8 @@ IsPlain (Trial number) = Unit {0}
 IsPlain (Audit plan) = Unit {0}
 IsPlain (Migrate plan) = Unit {0}
 IsPlain (Act plan script) = Unit {0}
+IsPlain Help = Unit {0}
+IsPlain Version = Unit {0}
 
 -- the plan on further threads that the words ask for, with its numbers in range; or they ask for none
 abbrev pub IsConcurrentPlan : List (List ℕ) → Option PlanWords → Type 0
@@ -53,6 +56,8 @@ inputs (Trial number) = []
 inputs (Audit plan) = plan_file plan ∷ []
 inputs (Migrate plan) = plan_file plan ∷ []
 inputs (Act plan script) = plan_file plan ∷ script_file script ∷ []
+inputs Help = []
+inputs Version = []
 
 -- their names
 abbrev pub names : Job → List (List ℕ)
@@ -82,6 +87,8 @@ Allows (Audit name) (source ∷ []) text = IsWithinLimit source (IsAuditText sou
 Allows (Migrate name) (source ∷ []) text = IsWithinLimit source (IsMigratedText source text)
 Allows (Act name script) (source ∷ commands ∷ []) text =
     IsWithinLimit source ((plan : IsLegalPlan source) × AcceptsScript commands plan.task.model (λ cs. IsActText plan.task (events_of plan.events) cs text))
+Allows Help [] text = text ≡ help_text
+Allows Version [] text = text ≡ version_text
 Allows job files text = ⊥
 
 -- with these bytes all files of the job are accepted

@@ -105,6 +105,8 @@ fn concurrent_words(job: Job) -> Option<PlanWords>
         Job::Audit { .. } => None,
         Job::Migrate { .. } => None,
         Job::Act { .. } => None,
+        Job::Help => None,
+        Job::Version => None,
     }
 }
 

@@ -60,8 +60,7 @@ impl Fault {
         ensures { result.now ≡ line_of self.now }
     {
         match self {
-            Fault::Usage =>
-                b"perseus: usage: perseus plan MODEL --beliefs N --depth D --stages N --seed S --workers N [--prune] [--explore uniform|sweep] [--sessions SCRIPT], perseus check MODEL, perseus show MODEL, perseus gen NUMBER, perseus trial NUMBER, perseus audit PLAN, perseus migrate PLAN, or perseus act PLAN SCRIPT\n",
+            Fault::Usage => b"perseus: usage: try perseus --help\n",
             Fault::NoMemory => b"perseus: out of memory\n",
             Fault::Refused(line) => line.as_slice(),
             Fault::ReadFault(line) => line.as_bytes(),

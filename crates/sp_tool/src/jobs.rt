@@ -4,12 +4,13 @@ ghost use Rattle.std.specs.Prelude.{◌≡◌, ◌≤◌, [], ◌∷◌, map, If
 ghost use Rattle.sp_outside.specs.Folder.{IsLaterFolder};
 ghost use Rattle.sp_choose.specs.Machines.{uniform, sweep};
 ghost use Rattle.sp_words.specs.Jobs.{IsPossible, ArePlanNumbers};
-ghost use Rattle.sp_words.specs.declared.job.Job.TheVariants.{Plan, Check, Show, Gen, Trial};
+ghost use Rattle.sp_words.specs.declared.job.Job.TheVariants.{Plan, Check, Show, Gen, Trial, Help, Version};
 ghost use Rattle.sp_tool.specs.Table.{Allows, IsPlain, IsTextFor};
 ghost use Rattle.sp_tool.specs.Faults.{Hinders};
 
 use crate::fault::Fault;
 use crate::file::{file_model, model_in};
+use crate::help::{help, version};
 use crate::inputs::{PlanInputs, plan_inputs};
 use crate::plans::{act_job, audit_job, migrate_job};
 use crate::texts::{check_text, plan_text, show_text, trial_text};
@@ -18,7 +19,7 @@ use sp_dd::NoMemory;
 use sp_gen::generated;
 use sp_outside::Store;
 use sp_words::{Job, PlanWords};
-use std::alloc::Global;
+use std::alloc::{AllocError, Global};
 
 /// The text of a job that asks for no further threads.
 pub fn text_for<S: Store>(
@@ -43,6 +44,8 @@ pub fn text_for<S: Store>(
         Job::Audit { plan } => audit_job(alloc, store, plan.as_str()),
         Job::Migrate { plan } => migrate_job(alloc, store, plan.as_str()),
         Job::Act { plan, script } => act_job(alloc, store, plan.as_str(), script.as_str()),
+        Job::Help => help_job(alloc),
+        Job::Version => version_job(alloc),
     }
 }
 
@@ -129,5 +132,32 @@ fn trial_job(
         Err(fault) => return Err(fault),
     };
     let text = trial_text(alloc, model, number, choosers)?;
+    Ok(text)
+}
+
+/// The text of the help.
+fn help_job(alloc: Global) -> Result<Vec<u8>, Fault>
+    ensures text { IfOk result (λ t. Allows Help [] t.items) }
+    ensures fault { IfErr result (λ f. f ≡ Fault.NoMemory) }
+{
+    let text = copied(alloc, help())?;
+    Ok(text)
+}
+
+/// The text of the version.
+fn version_job(alloc: Global) -> Result<Vec<u8>, Fault>
+    ensures text { IfOk result (λ t. Allows Version [] t.items) }
+    ensures fault { IfErr result (λ f. f ≡ Fault.NoMemory) }
+{
+    let text = copied(alloc, version())?;
+    Ok(text)
+}
+
+/// These bytes, as the text of a job.
+fn copied(alloc: Global, bytes: &[u8]) -> Result<Vec<u8>, AllocError>
+    ensures { IfOk result (λ text. text.items ≡ bytes.now) }
+{
+    let mut text = Vec::new(alloc);
+    text.extend_from_slice(bytes)?;
     Ok(text)
 }

@@ -1,5 +1,6 @@
 //! What holds of the files and the texts of the commands. Each function does nothing: its contract is the law.
 
+ghost use Rattle.sp_tool.specs.Help.{HelpIsWhole};
 ghost use Rattle.sp_tool.specs.Table.{FilesEndOnce};
 ghost use Rattle.sp_tool.specs.Texts.{OnePlan, PlannedFilesAreLegal, ShownTextsAreKept};
 
@@ -8,6 +9,11 @@ ghost use Rattle.sp_tool.specs.Texts.{OnePlan, PlannedFilesAreLegal, ShownTextsA
 /// Refused and NotLegal exclude one another.
 pub fn files_end_once()
     ensures { FilesEndOnce }
+{}
+
+/// The help tells of each command by its words, what it does and an example, with each word by which it is called; and of each status.
+pub fn help_is_whole()
+    ensures { HelpIsWhole }
 {}
 
 /// The text of a plan is that of one model, of one list of options and of one run with its logs only: with one action and observation for

@@ -4,12 +4,12 @@ use Rattle.std.specs.Str.Parse.{digits_value}
 use Rattle.sp_words.specs.Items.{Item, values, OptionHasNumber, HasFlag, HasFile}
 use Rattle.clap.specs.Words.{Row, first_of, subcommand_of}
 use Rattle.sp_words.specs.Apps.{tool_app}
-use Rattle.sp_words.specs.Jobs.{plan_names, IsPlanJob, HasExplore, AsksForPlan, IsNumberAlone, IsPlacedAlone, ArePlacedAlone, AsksBehind, AsksByList, GivesNumber, GivesFile, GivesPlan, Gives, AsksByParser, AskOnce, command_of}
+use Rattle.sp_words.specs.Jobs.{plan_names, IsPlanJob, HasExplore, AsksForPlan, IsNumberAlone, IsPlacedAlone, ArePlacedAlone, AsksBehind, AsksByList, GivesNumber, GivesFile, GivesPlan, Gives, AsksByParser, AskOnce, IsCommandWord}
 use Rattle.sp_words.specs.declared.job.PlanWords.{PlanWords}
 use Rattle.sp_words.specs.declared.job.Job.{Job}
-use Rattle.sp_words.specs.declared.job.Job.TheVariants.{Plan, Check, Show, Gen, Trial, Audit, Migrate, Act}
+use Rattle.sp_words.specs.declared.job.Job.TheVariants.{Plan, Check, Show, Gen, Trial, Audit, Migrate, Act, Help, Version}
 use Rattle.sp_words.proofs.ItemLemmas.{same_items}
-use Rattle.sp_words.proofs.JobLemmas.{differs, is_plan, is_check, is_show, is_gen, is_trial, is_audit, is_migrate, is_act}
+use Rattle.sp_words.proofs.JobLemmas.{differs, is_plan, is_check, is_show, is_gen, is_trial, is_audit, is_migrate, is_act, is_help, is_version}
 use Rattle.sp_words.proofs.ParserLemmas.{no_text}
 
 one_number : (items : List Item) (option : List ℕ) (least greatest m n : ℕ) → OptionHasNumber items option least greatest m → OptionHasNumber items option least greatest n → m ≡ n
@@ -91,25 +91,27 @@ one_by : (P : Job → Type 0) → ((p q : PlanWords) → P (Plan p) → P (Plan 
     → ((m n : ℕ) → P (Gen m) → P (Gen n) → m ≡ n) → ((m n : ℕ) → P (Trial m) → P (Trial n) → m ≡ n)
     → ((x y : List ℕ) → P (Audit x) → P (Audit y) → x ≡ y) → ((x y : List ℕ) → P (Migrate x) → P (Migrate y) → x ≡ y)
     → ((x y v w : List ℕ) → P (Act x v) → P (Act y w) → (x ≡ y) × (v ≡ w))
-    → (job other : Job) → command_of job ≡ command_of other → P job → P other → job ≡ other
-one_by P plans checks shows gens trials audits migrates acts (Plan x) other e one two =
-    let s = is_plan other (sym e) in ap Plan (plans x s.0 one (subst P s.1 two)) ∙ sym s.1
-one_by P plans checks shows gens trials audits migrates acts (Check x) other e one two =
-    let s = is_check other (sym e) in ap Check (checks x s.0 one (subst P s.1 two)) ∙ sym s.1
-one_by P plans checks shows gens trials audits migrates acts (Show x) other e one two =
-    let s = is_show other (sym e) in ap Show (shows x s.0 one (subst P s.1 two)) ∙ sym s.1
-one_by P plans checks shows gens trials audits migrates acts (Gen x) other e one two =
-    let s = is_gen other (sym e) in ap Gen (gens x s.0 one (subst P s.1 two)) ∙ sym s.1
-one_by P plans checks shows gens trials audits migrates acts (Trial x) other e one two =
-    let s = is_trial other (sym e) in ap Trial (trials x s.0 one (subst P s.1 two)) ∙ sym s.1
-one_by P plans checks shows gens trials audits migrates acts (Audit x) other e one two =
-    let s = is_audit other (sym e) in ap Audit (audits x s.0 one (subst P s.1 two)) ∙ sym s.1
-one_by P plans checks shows gens trials audits migrates acts (Migrate x) other e one two =
-    let s = is_migrate other (sym e) in ap Migrate (migrates x s.0 one (subst P s.1 two)) ∙ sym s.1
-one_by P plans checks shows gens trials audits migrates acts (Act x v) other e one two =
-    let s = is_act other (sym e) in
+    → (job other : Job) (word : List ℕ) → IsCommandWord job word → IsCommandWord other word → P job → P other → job ≡ other
+one_by P plans checks shows gens trials audits migrates acts (Plan x) other word e f one two =
+    let s = is_plan other (subst (IsCommandWord other) e f) in ap Plan (plans x s.0 one (subst P s.1 two)) ∙ sym s.1
+one_by P plans checks shows gens trials audits migrates acts (Check x) other word e f one two =
+    let s = is_check other (subst (IsCommandWord other) e f) in ap Check (checks x s.0 one (subst P s.1 two)) ∙ sym s.1
+one_by P plans checks shows gens trials audits migrates acts (Show x) other word e f one two =
+    let s = is_show other (subst (IsCommandWord other) e f) in ap Show (shows x s.0 one (subst P s.1 two)) ∙ sym s.1
+one_by P plans checks shows gens trials audits migrates acts (Gen x) other word e f one two =
+    let s = is_gen other (subst (IsCommandWord other) e f) in ap Gen (gens x s.0 one (subst P s.1 two)) ∙ sym s.1
+one_by P plans checks shows gens trials audits migrates acts (Trial x) other word e f one two =
+    let s = is_trial other (subst (IsCommandWord other) e f) in ap Trial (trials x s.0 one (subst P s.1 two)) ∙ sym s.1
+one_by P plans checks shows gens trials audits migrates acts (Audit x) other word e f one two =
+    let s = is_audit other (subst (IsCommandWord other) e f) in ap Audit (audits x s.0 one (subst P s.1 two)) ∙ sym s.1
+one_by P plans checks shows gens trials audits migrates acts (Migrate x) other word e f one two =
+    let s = is_migrate other (subst (IsCommandWord other) e f) in ap Migrate (migrates x s.0 one (subst P s.1 two)) ∙ sym s.1
+one_by P plans checks shows gens trials audits migrates acts (Act x v) other word e f one two =
+    let s = is_act other (subst (IsCommandWord other) e f) in
     let same = acts x s.0 v s.1 one (subst P s.2 two) in
     ap₂ Act same.0 same.1 ∙ sym s.2
+one_by P plans checks shows gens trials audits migrates acts Help other word e f one two = sym (is_help other word e f)
+one_by P plans checks shows gens trials audits migrates acts Version other word e f one two = sym (is_version other word e f)
 
 one_planned : (rest : List (List ℕ)) (p q : PlanWords) → AsksForPlan rest p → AsksForPlan rest q → p ≡ q
 one_planned rest p q one two =
@@ -120,10 +122,11 @@ one_planned rest p q one two =
 -- the same listed words ask for the same job
 same_listed : (words : List (List ℕ)) (job other : Job) → AsksByList words job → AsksByList words other → job ≡ other
 same_listed words job other one two =
-    let command : command_of job ≡ command_of other = cc (one.command, two.command) in
-    let rest : two.rest ≡ one.rest = cc (one.command, two.command) in
+    let command : two.command ≡ one.command = cc (one.are, two.are) in
+    let rest : two.rest ≡ one.rest = cc (one.are, two.are) in
+    let names : IsCommandWord other one.command = rw command at two.names in
     let behind : AsksBehind one.rest other = rw rest at two.behind in
-    one_by (AsksBehind one.rest) (one_planned one.rest) (one_place one.rest) (one_place one.rest) (one_alone one.rest) (one_alone one.rest) (one_place one.rest) (one_place one.rest) (one_pair one.rest) job other command one.behind behind
+    one_by (AsksBehind one.rest) (one_planned one.rest) (one_place one.rest) (one_place one.rest) (one_alone one.rest) (one_alone one.rest) (one_place one.rest) (one_place one.rest) (one_pair one.rest) job other one.command one.names names one.behind behind
 
 -- ---- words that the parser takes
 same_text : (found : Option (List ℕ)) (x y : List ℕ) → found ≡ Some x → found ≡ Some y → x ≡ y
@@ -165,7 +168,7 @@ one_given_plan rows p q one two =
     (one_given_file rows (codes "sessions") p.sessions q.sessions one.sessions two.sessions)
 
 -- the same matches of one command give the same job
-one_gives : (rows : List Row) (job other : Job) → command_of job ≡ command_of other → Gives rows job → Gives rows other → job ≡ other
+one_gives : (rows : List Row) (job other : Job) (command : List ℕ) → IsCommandWord job command → IsCommandWord other command → Gives rows job → Gives rows other → job ≡ other
 one_gives rows = one_by (Gives rows) (one_given_plan rows) (same_text (first_of (codes "model") rows)) (same_text (first_of (codes "model") rows))
     (one_given rows (codes "number") 0 16) (one_given rows (codes "number") 0 16) (same_text (first_of (codes "plan") rows)) (same_text (first_of (codes "plan") rows))
     (λ x y v w one two. (same_text (first_of (codes "plan") rows) x y one.0 two.0, same_text (first_of (codes "script") rows) v w one.1 two.1))
@@ -177,9 +180,10 @@ same_entry entry a b x y one two = let both : ◌≡◌ {A = Option (List ℕ ×
 
 same_taken : (words : List (List ℕ)) (job other : Job) → AsksByParser words job → AsksByParser words other → job ≡ other
 same_taken words job other one two =
-    let same = same_entry (subcommand_of tool_app words) (command_of job) (command_of other) one.rows two.rows one.enters two.enters in
+    let same = same_entry (subcommand_of tool_app words) one.command two.command one.rows two.rows one.enters two.enters in
+    let names : IsCommandWord other one.command = rw (← same.0) at two.names in
     let gives : Gives one.rows other = rw (← same.1) at two.gives in
-    one_gives one.rows job other same.0 one.gives gives
+    one_gives one.rows job other one.command one.names names one.gives gives
 
 -- ---- both
 -- the same words ask for the same job

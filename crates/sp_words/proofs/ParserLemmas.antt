@@ -4,7 +4,7 @@ use Rattle.std.specs.Borrow.{Bor}
 use Rattle.clap.specs.Words.{Row, kind_of, FailsBy, Kinds}
 use Rattle.clap.specs.declared.error.Error.{Error}
 use Rattle.clap.specs.declared.error.ErrorKind.TheVariants.{OutOfMemory}
-use Rattle.sp_words.specs.Jobs.{GivesNumber, Gives, AsksByList, AsksByParser, Asks, command_of}
+use Rattle.sp_words.specs.Jobs.{GivesNumber, Gives, AsksByList, AsksByParser, Asks, IsCommandWord}
 use Rattle.sp_words.specs.declared.job.Job.{Job}
 use Rattle.sp_words.proofs.JobLemmas.{gen_only, trial_only}
 
@@ -34,10 +34,10 @@ pub no_text : (found : Option (List ℕ)) → found ≡ None → (word : List �
 no_text found none word some = let bad : ◌≡◌ {A = Option (List ℕ)} None (Some word) = sym none ∙ some in cc
 
 -- matches without a number give no job of these commands
-pub no_gen_given : (rows : List Row) → ((n : ℕ) → ¬ (GivesNumber rows (codes "number") 0 16 n)) → (job : Job) → command_of job ≡ codes "gen" → ¬ (Gives rows job)
+pub no_gen_given : (rows : List Row) → ((n : ℕ) → ¬ (GivesNumber rows (codes "number") 0 16 n)) → (job : Job) → IsCommandWord job (codes "gen") → ¬ (Gives rows job)
 no_gen_given rows none = gen_only (Gives rows) none
 
-pub no_trial_given : (rows : List Row) → ((n : ℕ) → ¬ (GivesNumber rows (codes "number") 0 16 n)) → (job : Job) → command_of job ≡ codes "trial" → ¬ (Gives rows job)
+pub no_trial_given : (rows : List Row) → ((n : ℕ) → ¬ (GivesNumber rows (codes "number") 0 16 n)) → (job : Job) → IsCommandWord job (codes "trial") → ¬ (Gives rows job)
 no_trial_given rows none = trial_only (Gives rows) none
 
 -- words that aren't listed, and what the parser makes of them

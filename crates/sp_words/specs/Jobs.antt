@@ -7,7 +7,7 @@ use Rattle.sp_words.specs.Apps.{tool_app}
 use Rattle.sp_words.specs.declared.job.PlanNumbers.{PlanNumbers}
 use Rattle.sp_words.specs.declared.job.PlanWords.{PlanWords}
 use Rattle.sp_words.specs.declared.job.Job.{Job}
-use Rattle.sp_words.specs.declared.job.Job.TheVariants.{Plan, Check, Show, Gen, Trial, Audit, Migrate, Act}
+use Rattle.sp_words.specs.declared.job.Job.TheVariants.{Plan, Check, Show, Gen, Trial, Audit, Migrate, Act, Help, Version}
 
 -- the actions are explored in turn, or at random, which is also what no word means
 abbrev pub HasExplore : List Item → Bool → Type 0
@@ -36,16 +36,18 @@ pub record IsPlanJob (items : List Item) (plan : PlanWords) : Type 0 where
   pub explore : HasExplore items plan.sweep
   pub sessions : HasFile items (codes "--sessions") plan.sessions
 
--- the word of a command
-abbrev pub command_of : Job → List ℕ
-command_of (Plan plan) = codes "plan"
-command_of (Check model) = codes "check"
-command_of (Show model) = codes "show"
-command_of (Gen number) = codes "gen"
-command_of (Trial number) = codes "trial"
-command_of (Audit plan) = codes "audit"
-command_of (Migrate plan) = codes "migrate"
-command_of (Act plan script) = codes "act"
+-- the word is that of the job's command; help and the version have several
+abbrev pub IsCommandWord : Job → List ℕ → Type 0
+IsCommandWord (Plan plan) word = word ≡ codes "plan"
+IsCommandWord (Check model) word = word ≡ codes "check"
+IsCommandWord (Show model) word = word ≡ codes "show"
+IsCommandWord (Gen number) word = word ≡ codes "gen"
+IsCommandWord (Trial number) word = word ≡ codes "trial"
+IsCommandWord (Audit plan) word = word ≡ codes "audit"
+IsCommandWord (Migrate plan) word = word ≡ codes "migrate"
+IsCommandWord (Act plan script) word = word ≡ codes "act"
+IsCommandWord Help word = (word ≡ codes "--help") ⊎ ((word ≡ codes "-h") ⊎ (word ≡ codes "help"))
+IsCommandWord Version word = (word ≡ codes "--version") ⊎ (word ≡ codes "-V")
 
 -- the options and the flags of `plan`
 abbrev pub plan_names : OptionNames
@@ -83,11 +85,15 @@ AsksBehind rest (Trial number) = IsNumberAlone rest number
 AsksBehind rest (Audit plan) = IsPlacedAlone rest plan
 AsksBehind rest (Migrate plan) = IsPlacedAlone rest plan
 AsksBehind rest (Act plan script) = ArePlacedAlone rest plan script
+AsksBehind rest Help = rest ≡ []
+AsksBehind rest Version = rest ≡ []
 
 -- the words are those that are listed for a command, and ask for this
 pub record AsksByList (words : List (List ℕ)) (job : Job) : Type 0 where
+  pub command : List ℕ
   pub rest : List (List ℕ)
-  pub command : words ≡ command_of job ∷ rest
+  pub are : words ≡ command ∷ rest
+  pub names : IsCommandWord job command
   pub behind : AsksBehind rest job
 
 -- ---- words that the parser of command lines takes
@@ -117,7 +123,7 @@ pub record GivesPlan (rows : List Row) (plan : PlanWords) : Type 0 where
   pub explore : first_of (codes "explore") rows ≡ Some (cond plan.sweep (codes "sweep") (codes "uniform"))
   pub sessions : GivesFile rows (codes "sessions") plan.sessions
 
--- the matches of a command give this job
+-- the matches of a command give this job; no command of the parser gives help or the version
 abbrev pub Gives : List Row → Job → Type 0
 Gives rows (Plan plan) = GivesPlan rows plan
 Gives rows (Check model) = first_of (codes "model") rows ≡ Some model
@@ -127,6 +133,8 @@ Gives rows (Trial number) = GivesNumber rows (codes "number") 0 16 number
 Gives rows (Audit plan) = first_of (codes "plan") rows ≡ Some plan
 Gives rows (Migrate plan) = first_of (codes "plan") rows ≡ Some plan
 Gives rows (Act plan script) = (first_of (codes "plan") rows ≡ Some plan) × (first_of (codes "script") rows ≡ Some script)
+Gives rows Help = ⊥
+Gives rows Version = ⊥
 
 -- the parser finds no fault in the words, or its definition says that it takes them
 abbrev pub IsTaken : List (List ℕ) → Type 0
@@ -134,9 +142,11 @@ IsTaken words = (fault_of tool_app words ≡ []) ⊎ (takes tool_app words ≡ t
 
 -- the parser takes the words, and its matches give this job
 pub record AsksByParser (words : List (List ℕ)) (job : Job) : Type 0 where
+  pub command : List ℕ
   pub rows : List Row
   pub taken : IsTaken words
-  pub enters : subcommand_of tool_app words ≡ Some (command_of job, rows)
+  pub enters : subcommand_of tool_app words ≡ Some (command, rows)
+  pub names : IsCommandWord job command
   pub gives : Gives rows job
 
 -- ---- both
@@ -165,6 +175,8 @@ IsPossible (Trial number) = number ≤ 16
 IsPossible (Audit plan) = Unit {0}
 IsPossible (Migrate plan) = Unit {0}
 IsPossible (Act plan script) = Unit {0}
+IsPossible Help = Unit {0}
+IsPossible Version = Unit {0}
 
 -- words ask for one job at most
 abbrev pub AskOnce : Type 0

@@ -101,6 +101,10 @@ pub enum Job {
     Migrate { plan: Name },
     /// Serve a script of acting sessions on the last edition of a plan file.
     Act { plan: Name, script: Name },
+    /// Write how the program is called.
+    Help,
+    /// Write the program's version.
+    Version,
 }
 
 /// Why words ask for nothing.

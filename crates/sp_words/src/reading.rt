@@ -2,9 +2,10 @@
 
 ghost use Rattle.std.specs.Prelude.{◌≡◌, ◌≢◌, ℕ, List, ◌∷◌, codes, map, cond, IfOk, MatchOption, string_bytes, Err, Bool};
 ghost use Rattle.sp_words.specs.Pieces.{item_of};
-ghost use Rattle.sp_words.specs.Jobs.{Asks, AsksByList, AsksBehind, IsPlanJob, HavePlanNumbers, HasExplore, IsPlacedAlone, ArePlacedAlone, IsNumberAlone, IsPossible, command_of};
+ghost use Rattle.sp_words.specs.Jobs.{Asks, AsksByList, AsksBehind, IsPlanJob, HavePlanNumbers, HasExplore, IsPlacedAlone, ArePlacedAlone, IsNumberAlone, IsPossible, IsCommandWord};
 ghost use Rattle.sp_words.specs.Items.{HasFlag};
 ghost use Rattle.sp_words.specs.declared.job.Job.{Job};
+ghost use Rattle.sp_words.specs.declared.job.Job.TheVariants.{Help, Version};
 ghost use Rattle.sp_words.specs.declared.job.PlanNumbers.{PlanNumbers};
 ghost use Rattle.sp_words.specs.declared.job.PlanWords.{PlanWords};
 
@@ -58,7 +59,22 @@ fn read_listed(alloc: Global, words: &[String]) -> Result<Job, WordsError>
     if let Some(rest) = words_behind(words, "act") {
         return act(alloc, rest);
     }
-    Err(WordsError::Usage)
+    told(words)
+}
+
+/// What a word asks for that stands alone: help, or the version.
+fn told(words: &[String]) -> Result<Job, WordsError>
+    ensures asks { IfOk result (λ job. AsksByList (map string_bytes words.now) job) }
+    ensures usage { result ≡ Err WordsError.Usage → ¬ (AsksByList (map string_bytes words.now) Help) × ¬ (AsksByList (map string_bytes words.now) Version) }
+{
+    let [word] = words else {
+        return Err(WordsError::Usage);
+    };
+    match word.as_str() {
+        "--help" | "-h" | "help" => Ok(Job::Help),
+        "--version" | "-V" => Ok(Job::Version),
+        _ => Err(WordsError::Usage),
+    }
 }
 
 /// The words behind the command, if it is this one.
@@ -75,8 +91,8 @@ fn words_behind<'a>(words: &'a [String], command: &str) -> Option<&'a [String]>
 
 /// The plan that the words behind the command ask for.
 fn plan(alloc: Global, words: &[String]) -> Result<Job, WordsError>
-    ensures asks { IfOk result (λ job. (command_of job ≡ codes "plan") × AsksBehind (map string_bytes words.now) job) }
-    ensures usage { result ≡ Err WordsError.Usage → (job : Job) → command_of job ≡ codes "plan" → ¬ (AsksBehind (map string_bytes words.now) job) }
+    ensures asks { IfOk result (λ job. IsCommandWord job (codes "plan") × AsksBehind (map string_bytes words.now) job) }
+    ensures usage { result ≡ Err WordsError.Usage → (job : Job) → IsCommandWord job (codes "plan") → ¬ (AsksBehind (map string_bytes words.now) job) }
 {
     let options = [
         "--beliefs",
@@ -224,8 +240,8 @@ fn file_behind(alloc: Global, words: &[String]) -> Result<Name, WordsError>
 
 /// The check that the words behind the command ask for.
 fn check(alloc: Global, words: &[String]) -> Result<Job, WordsError>
-    ensures asks { IfOk result (λ job. (command_of job ≡ codes "check") × AsksBehind (map string_bytes words.now) job) }
-    ensures usage { result ≡ Err WordsError.Usage → (job : Job) → command_of job ≡ codes "check" → ¬ (AsksBehind (map string_bytes words.now) job) }
+    ensures asks { IfOk result (λ job. IsCommandWord job (codes "check") × AsksBehind (map string_bytes words.now) job) }
+    ensures usage { result ≡ Err WordsError.Usage → (job : Job) → IsCommandWord job (codes "check") → ¬ (AsksBehind (map string_bytes words.now) job) }
 {
     match file_behind(alloc, words) {
         Ok(model) => Ok(Job::Check { model }),
@@ -235,8 +251,8 @@ fn check(alloc: Global, words: &[String]) -> Result<Job, WordsError>
 
 /// The canonical text that the words behind the command ask for.
 fn show(alloc: Global, words: &[String]) -> Result<Job, WordsError>
-    ensures asks { IfOk result (λ job. (command_of job ≡ codes "show") × AsksBehind (map string_bytes words.now) job) }
-    ensures usage { result ≡ Err WordsError.Usage → (job : Job) → command_of job ≡ codes "show" → ¬ (AsksBehind (map string_bytes words.now) job) }
+    ensures asks { IfOk result (λ job. IsCommandWord job (codes "show") × AsksBehind (map string_bytes words.now) job) }
+    ensures usage { result ≡ Err WordsError.Usage → (job : Job) → IsCommandWord job (codes "show") → ¬ (AsksBehind (map string_bytes words.now) job) }
 {
     match file_behind(alloc, words) {
         Ok(model) => Ok(Job::Show { model }),
@@ -256,8 +272,8 @@ fn number_behind(words: &[String]) -> Option<u64>
 
 /// The generated model that the words behind the command ask for.
 fn generate(words: &[String]) -> Result<Job, WordsError>
-    ensures asks { IfOk result (λ job. (command_of job ≡ codes "gen") × AsksBehind (map string_bytes words.now) job) }
-    ensures usage { result ≡ Err WordsError.Usage → (job : Job) → command_of job ≡ codes "gen" → ¬ (AsksBehind (map string_bytes words.now) job) }
+    ensures asks { IfOk result (λ job. IsCommandWord job (codes "gen") × AsksBehind (map string_bytes words.now) job) }
+    ensures usage { result ≡ Err WordsError.Usage → (job : Job) → IsCommandWord job (codes "gen") → ¬ (AsksBehind (map string_bytes words.now) job) }
 {
     match number_behind(words) {
         Some(number) => Ok(Job::Gen { number }),
@@ -267,8 +283,8 @@ fn generate(words: &[String]) -> Result<Job, WordsError>
 
 /// The trial that the words behind the command ask for.
 fn trial(words: &[String]) -> Result<Job, WordsError>
-    ensures asks { IfOk result (λ job. (command_of job ≡ codes "trial") × AsksBehind (map string_bytes words.now) job) }
-    ensures usage { result ≡ Err WordsError.Usage → (job : Job) → command_of job ≡ codes "trial" → ¬ (AsksBehind (map string_bytes words.now) job) }
+    ensures asks { IfOk result (λ job. IsCommandWord job (codes "trial") × AsksBehind (map string_bytes words.now) job) }
+    ensures usage { result ≡ Err WordsError.Usage → (job : Job) → IsCommandWord job (codes "trial") → ¬ (AsksBehind (map string_bytes words.now) job) }
 {
     match number_behind(words) {
         Some(number) => Ok(Job::Trial { number }),
@@ -278,8 +294,8 @@ fn trial(words: &[String]) -> Result<Job, WordsError>
 
 /// The judging of a plan file that the words behind the command ask for.
 fn audit(alloc: Global, words: &[String]) -> Result<Job, WordsError>
-    ensures asks { IfOk result (λ job. (command_of job ≡ codes "audit") × AsksBehind (map string_bytes words.now) job) }
-    ensures usage { result ≡ Err WordsError.Usage → (job : Job) → command_of job ≡ codes "audit" → ¬ (AsksBehind (map string_bytes words.now) job) }
+    ensures asks { IfOk result (λ job. IsCommandWord job (codes "audit") × AsksBehind (map string_bytes words.now) job) }
+    ensures usage { result ≡ Err WordsError.Usage → (job : Job) → IsCommandWord job (codes "audit") → ¬ (AsksBehind (map string_bytes words.now) job) }
 {
     match file_behind(alloc, words) {
         Ok(plan) => Ok(Job::Audit { plan }),
@@ -289,8 +305,8 @@ fn audit(alloc: Global, words: &[String]) -> Result<Job, WordsError>
 
 /// The plan file in its newest version that the words behind the command ask for.
 fn migrate(alloc: Global, words: &[String]) -> Result<Job, WordsError>
-    ensures asks { IfOk result (λ job. (command_of job ≡ codes "migrate") × AsksBehind (map string_bytes words.now) job) }
-    ensures usage { result ≡ Err WordsError.Usage → (job : Job) → command_of job ≡ codes "migrate" → ¬ (AsksBehind (map string_bytes words.now) job) }
+    ensures asks { IfOk result (λ job. IsCommandWord job (codes "migrate") × AsksBehind (map string_bytes words.now) job) }
+    ensures usage { result ≡ Err WordsError.Usage → (job : Job) → IsCommandWord job (codes "migrate") → ¬ (AsksBehind (map string_bytes words.now) job) }
 {
     match file_behind(alloc, words) {
         Ok(plan) => Ok(Job::Migrate { plan }),
@@ -300,8 +316,8 @@ fn migrate(alloc: Global, words: &[String]) -> Result<Job, WordsError>
 
 /// The serving of a script on a plan file that the words behind the command ask for.
 fn act(alloc: Global, words: &[String]) -> Result<Job, WordsError>
-    ensures asks { IfOk result (λ job. (command_of job ≡ codes "act") × AsksBehind (map string_bytes words.now) job) }
-    ensures usage { result ≡ Err WordsError.Usage → (job : Job) → command_of job ≡ codes "act" → ¬ (AsksBehind (map string_bytes words.now) job) }
+    ensures asks { IfOk result (λ job. IsCommandWord job (codes "act") × AsksBehind (map string_bytes words.now) job) }
+    ensures usage { result ≡ Err WordsError.Usage → (job : Job) → IsCommandWord job (codes "act") → ¬ (AsksBehind (map string_bytes words.now) job) }
 {
     let Some((plan, script)) = places_behind(words) else {
         return Err(WordsError::Usage);

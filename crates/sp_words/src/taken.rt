@@ -2,7 +2,7 @@
 
 ghost use Rattle.std.specs.Prelude.{◌≡◌, ◌≢◌, ℕ, List, Bool, Option, None, Some, codes, cond, map, IfOk, MatchOption, string_bytes, Err, option_map};
 ghost use Rattle.clap.specs.Words.{found_of, rows_of, first_of};
-ghost use Rattle.sp_words.specs.Jobs.{AsksByParser, GivesNumber, GivesFile, GivePlanNumbers, GivesPlan, Gives, command_of};
+ghost use Rattle.sp_words.specs.Jobs.{AsksByParser, GivesNumber, GivesFile, GivePlanNumbers, GivesPlan, Gives, IsCommandWord};
 ghost use Rattle.sp_words.specs.declared.job.Job.{Job};
 ghost use Rattle.sp_words.specs.declared.job.PlanNumbers.{PlanNumbers};
 ghost use Rattle.sp_words.specs.declared.job.PlanWords.{PlanWords};
@@ -37,8 +37,8 @@ pub fn read_by_parser(alloc: Global, words: &[String]) -> Result<Job, WordsError
 
 /// The job that the matches of a command give.
 fn job_of(alloc: Global, command: &str, matches: &ArgMatches<'_>) -> Result<Job, WordsError>
-    ensures asks { IfOk result (λ job. (command_of job ≡ command.now) × Gives (rows_of (found_of matches.now)) job) }
-    ensures usage { result ≡ Err WordsError.Usage → (job : Job) → command_of job ≡ command.now → ¬ (Gives (rows_of (found_of matches.now)) job) }
+    ensures asks { IfOk result (λ job. IsCommandWord job command.now × Gives (rows_of (found_of matches.now)) job) }
+    ensures usage { result ≡ Err WordsError.Usage → (job : Job) → IsCommandWord job command.now → ¬ (Gives (rows_of (found_of matches.now)) job) }
 {
     if command == "plan" {
         return match plan_of(alloc, matches) {
@@ -92,8 +92,8 @@ fn file_at(alloc: Global, matches: &ArgMatches<'_>, id: &str) -> Result<Name, Wo
 
 /// The check that matches give.
 fn check_of(alloc: Global, matches: &ArgMatches<'_>) -> Result<Job, WordsError>
-    ensures asks { IfOk result (λ job. (command_of job ≡ codes "check") × Gives (rows_of (found_of matches.now)) job) }
-    ensures usage { result ≡ Err WordsError.Usage → (job : Job) → command_of job ≡ codes "check" → ¬ (Gives (rows_of (found_of matches.now)) job) }
+    ensures asks { IfOk result (λ job. IsCommandWord job (codes "check") × Gives (rows_of (found_of matches.now)) job) }
+    ensures usage { result ≡ Err WordsError.Usage → (job : Job) → IsCommandWord job (codes "check") → ¬ (Gives (rows_of (found_of matches.now)) job) }
 {
     match file_at(alloc, matches, "model") {
         Ok(model) => Ok(Job::Check { model }),
@@ -103,8 +103,8 @@ fn check_of(alloc: Global, matches: &ArgMatches<'_>) -> Result<Job, WordsError>
 
 /// The canonical text that matches give.
 fn show_of(alloc: Global, matches: &ArgMatches<'_>) -> Result<Job, WordsError>
-    ensures asks { IfOk result (λ job. (command_of job ≡ codes "show") × Gives (rows_of (found_of matches.now)) job) }
-    ensures usage { result ≡ Err WordsError.Usage → (job : Job) → command_of job ≡ codes "show" → ¬ (Gives (rows_of (found_of matches.now)) job) }
+    ensures asks { IfOk result (λ job. IsCommandWord job (codes "show") × Gives (rows_of (found_of matches.now)) job) }
+    ensures usage { result ≡ Err WordsError.Usage → (job : Job) → IsCommandWord job (codes "show") → ¬ (Gives (rows_of (found_of matches.now)) job) }
 {
     match file_at(alloc, matches, "model") {
         Ok(model) => Ok(Job::Show { model }),
@@ -114,8 +114,8 @@ fn show_of(alloc: Global, matches: &ArgMatches<'_>) -> Result<Job, WordsError>
 
 /// The judging of a plan file that matches give.
 fn audit_of(alloc: Global, matches: &ArgMatches<'_>) -> Result<Job, WordsError>
-    ensures asks { IfOk result (λ job. (command_of job ≡ codes "audit") × Gives (rows_of (found_of matches.now)) job) }
-    ensures usage { result ≡ Err WordsError.Usage → (job : Job) → command_of job ≡ codes "audit" → ¬ (Gives (rows_of (found_of matches.now)) job) }
+    ensures asks { IfOk result (λ job. IsCommandWord job (codes "audit") × Gives (rows_of (found_of matches.now)) job) }
+    ensures usage { result ≡ Err WordsError.Usage → (job : Job) → IsCommandWord job (codes "audit") → ¬ (Gives (rows_of (found_of matches.now)) job) }
 {
     match file_at(alloc, matches, "plan") {
         Ok(plan) => Ok(Job::Audit { plan }),
@@ -125,8 +125,8 @@ fn audit_of(alloc: Global, matches: &ArgMatches<'_>) -> Result<Job, WordsError>
 
 /// The plan file in its newest version that matches give.
 fn migrate_of(alloc: Global, matches: &ArgMatches<'_>) -> Result<Job, WordsError>
-    ensures asks { IfOk result (λ job. (command_of job ≡ codes "migrate") × Gives (rows_of (found_of matches.now)) job) }
-    ensures usage { result ≡ Err WordsError.Usage → (job : Job) → command_of job ≡ codes "migrate" → ¬ (Gives (rows_of (found_of matches.now)) job) }
+    ensures asks { IfOk result (λ job. IsCommandWord job (codes "migrate") × Gives (rows_of (found_of matches.now)) job) }
+    ensures usage { result ≡ Err WordsError.Usage → (job : Job) → IsCommandWord job (codes "migrate") → ¬ (Gives (rows_of (found_of matches.now)) job) }
 {
     match file_at(alloc, matches, "plan") {
         Ok(plan) => Ok(Job::Migrate { plan }),
@@ -136,8 +136,8 @@ fn migrate_of(alloc: Global, matches: &ArgMatches<'_>) -> Result<Job, WordsError
 
 /// The serving of a script on a plan file that matches give.
 fn act_of(alloc: Global, matches: &ArgMatches<'_>) -> Result<Job, WordsError>
-    ensures asks { IfOk result (λ job. (command_of job ≡ codes "act") × Gives (rows_of (found_of matches.now)) job) }
-    ensures usage { result ≡ Err WordsError.Usage → (job : Job) → command_of job ≡ codes "act" → ¬ (Gives (rows_of (found_of matches.now)) job) }
+    ensures asks { IfOk result (λ job. IsCommandWord job (codes "act") × Gives (rows_of (found_of matches.now)) job) }
+    ensures usage { result ≡ Err WordsError.Usage → (job : Job) → IsCommandWord job (codes "act") → ¬ (Gives (rows_of (found_of matches.now)) job) }
 {
     let Some(plan) = text_at(matches, "plan") else {
         return Err(WordsError::Usage);
